@@ -1,0 +1,1 @@
+// Elements of d words, 2 to 6, in arrays of six.

@@ -1,0 +1,5 @@
+pub mod Fill
+pub mod Mod
+pub mod Tests
+pub mod Refusal
+pub mod InRange
