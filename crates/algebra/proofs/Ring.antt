@@ -3,7 +3,7 @@
 use mathlib.Core.Path.{_≡_, sym, _∙_, ap}
 use mathlib.Core.Bool.{Bool, true, false, true≢false}
 use mathlib.Core.Logic.{_≢_}
-use Rattle.algebra.specs.Ring.{CommRing, DiscreteRing, Unit-of}
+use Rattle.algebra.specs.Ring.{CommRing, DiscreteRing, Unit-of, Hom}
 
 module _ (R : CommRing) where
   infixl 65 _⊕_
@@ -158,6 +158,9 @@ module _ (R : CommRing) where
   pub add-sub : (a b : E) → a ⊕ ⊖ b ⊕ b ≡ a
   add-sub a b = rw (add-assoc, add-comm (⊖ b) b, add-neg, add-zero)
 
+  pub add-sub-left : (a b : E) → b ⊕ (a ⊕ ⊖ b) ≡ a
+  add-sub-left a b = add-comm b (a ⊕ ⊖ b) ∙ add-sub a b
+
   pub neg-unique : (a b : E) → a ⊕ b ≡ 𝟘 → b ≡ ⊖ a
   neg-unique a b h = cancel a b (⊖ a) (h ∙ sym (add-neg a))
 
@@ -194,10 +197,26 @@ module _ (R : CommRing) where
   inverse-only u v w h k = unit-inj u v w (w, k) (mul-comm u v ∙ h ∙ sym k ∙ mul-comm w u)
 
 module _ (D : DiscreteRing) where
-  -- the test of equality fails where the two differ
+  -- the test of equality holds of what is equal
+  pub eqb-true : {a b : D .ring .E} → a ≡ b → D .eqb a b ≡ true
+  eqb-true {a} e = sym (ap (D .eqb a) e) ∙ D .eqb-refl a
+
+  -- and fails where the two differ
   pub eqb-false : (a b : D .ring .E) → D .eqb a b ≡ false → a ≢ b
   eqb-false a b h e = let z : true ≡ false = cc (D .eqb-refl a, ap (D .eqb a) e) in absurd (true≢false z)
 
   -- `inv` is right at each unit
   pub inv-right : (u : D .ring .E) → Unit-of (D .ring) u → D .ring .mul (D .inv u) u ≡ D .ring .𝟙
   inv-right u (v, h) = D .inv-unit u v h
+
+-- maps of rings
+module _ {R S : CommRing} (f : Hom R S) where
+  pub fn-zero : f .fn (R .𝟘) ≡ S .𝟘
+  fn-zero = zero-of-double S (f .fn (R .𝟘)) (sym (f .fn-add (R .𝟘) (R .𝟘)) ∙ ap (f .fn) (add-zero R (R .𝟘)))
+
+  pub fn-neg : (a : R .E) → f .fn (R .neg a) ≡ S .neg (f .fn a)
+  fn-neg a = neg-unique S (f .fn a) (f .fn (R .neg a)) (sym (f .fn-add a (R .neg a)) ∙ ap (f .fn) (add-neg R a) ∙ fn-zero)
+
+  -- what has one image has a difference that goes to zero
+  pub fn-sub : (a b : R .E) → f .fn a ≡ f .fn b → f .fn (R .add a (R .neg b)) ≡ S .𝟘
+  fn-sub a b h = f .fn-add a (R .neg b) ∙ rw (fn-neg b, h, add-neg)

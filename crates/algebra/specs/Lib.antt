@@ -1,1 +1,3 @@
+pub mod Poly
 pub mod Ring
+pub mod Shares
