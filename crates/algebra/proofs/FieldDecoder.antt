@@ -113,14 +113,14 @@ module _ (D : DiscreteRing) (F : IsField (D .ring)) (t : ℕ) (ss : List (Share 
         (omega (arith, inv .sum, second)))
 
     -- a share at which `b₁` is not zero is right, and there are enough of them
-    right : All (λ s. nonroot D (p .b₁) s ≡ true → eval R f (s .at) ≡ s .val) ss
+    pub right : All (λ s. nonroot D (p .b₁) s ≡ true → eval R f (s .at) ≡ s .val) ss
     right =
         all-map
         (λ s g n. unit-inj R (eval R (p .b₁) (s .at)) _ _ (F .unit _ (eqb-false D _ _ (not-true _ n)))
         (cancel R _ _ _ (solved (s .at) ∙ sym g)))
         ss (inv .zero₁)
 
-    enough : suc t ≤ count (nonroot D (p .b₁)) ss
+    pub enough : suc t ≤ count (nonroot D (p .b₁)) ss
     enough = go (decLe (suc t) (count (nonroot D (p .b₁)) ss))
       where
         go : Dec (suc t ≤ count (nonroot D (p .b₁)) ss) → suc t ≤ count (nonroot D (p .b₁)) ss

@@ -1,3 +1,4 @@
+pub mod Extension
 pub mod FieldDecoder
 pub mod Interpolation
 pub mod KeyEquation
@@ -5,3 +6,5 @@ pub mod Levels
 pub mod Poly
 pub mod Ring
 pub mod Shares
+pub mod Units
+pub mod Vec

@@ -1,1 +1,15 @@
 pub mod Examples
+pub mod Zmod
+pub mod Galois
+pub mod Table
+pub mod Lists
+pub mod Elements
+pub mod Field
+pub mod Inverse
+pub mod Points
+pub mod Instance
+pub mod Zip
+pub mod Held
+pub mod Horner
+pub mod Bits
+pub mod Calls

@@ -1,1 +1,3 @@
 pub mod Element
+pub mod Inversion
+pub mod Calls

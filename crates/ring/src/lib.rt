@@ -1,1 +1,352 @@
-// Elements of d words, 2 to 6, in arrays of six.
+// Elements of the Galois ring: d words of k bits, 2 to 6, in arrays of six with zeros after the d words; and the calls on lent elements.
+ghost use mathlib.Core.Path.{_≡_};
+ghost use mathlib.Core.Bool.{cond};
+ghost use mathlib.Core.List.{_∷_, [], _++_};
+ghost use Prim.Native.Nat.{_+_, _-_, _*_, _≤_};
+ghost use lib.Dec.{ltb};
+ghost use lib.ListN.{length, take, drop, getD};
+ghost use Rattle.ring.specs.Element.{zip, sum, difference, held, lower, downW, timesX, plusW, addScaled, product, point, inverse};
+ghost use Rattle.ring.specs.Inversion.{fermat, newton};
+ghost use Rattle.ring.specs.Calls.{operandFault, operandsFault};
+ghost use Rattle.words.specs.Refusal.{kept};
+
+// The lower coefficients of the modulus by d, constant first. No modulus has fewer than two.
+const LOWER: [[u64; 6]; 7] = [
+    [0, 0, 0, 0, 0, 0],
+    [0, 0, 0, 0, 0, 0],
+    [1, 1, 0, 0, 0, 0],
+    [1, 1, 0, 0, 0, 0],
+    [1, 1, 0, 0, 0, 0],
+    [1, 0, 1, 0, 0, 0],
+    [1, 1, 0, 0, 0, 0],
+];
+
+// The row of d. A table is built anew wherever it is read, so its row is read once and handed on.
+pub fn lower_of(d: usize) -> [u64; 6]
+    requires { ⌜ (2 ≤ d) × (d ≤ 6) ⌝ }
+    ensures { λ r. ⌜ r ≡ held d (lower d) ⌝ }
+{
+    LOWER[d]
+}
+
+pub fn sum(k: u64, a: [u64; 6], b: [u64; 6]) -> [u64; 6]
+    requires { ⌜ (1 ≤ k) × (k ≤ 64) ⌝ }
+    ensures { λ r. ⌜ r ≡ sum k a b ⌝ }
+{
+    [
+        words::add(k, a[0], b[0]),
+        words::add(k, a[1], b[1]),
+        words::add(k, a[2], b[2]),
+        words::add(k, a[3], b[3]),
+        words::add(k, a[4], b[4]),
+        words::add(k, a[5], b[5]),
+    ]
+}
+
+pub fn difference(k: u64, a: [u64; 6], b: [u64; 6]) -> [u64; 6]
+    requires { ⌜ (1 ≤ k) × (k ≤ 64) ⌝ }
+    ensures { λ r. ⌜ r ≡ difference k a b ⌝ }
+{
+    [
+        words::sub(k, a[0], b[0]),
+        words::sub(k, a[1], b[1]),
+        words::sub(k, a[2], b[2]),
+        words::sub(k, a[3], b[3]),
+        words::sub(k, a[4], b[4]),
+        words::sub(k, a[5], b[5]),
+    ]
+}
+
+// c times x where c is 0 or 1.
+fn pick(c: u64, x: u64) -> u64
+    requires { ⌜ c ≤ 1 ⌝ }
+    ensures { λ r. ⌜ r ≡ c * x ⌝ }
+{
+    if c == 0 {
+        return 0;
+    }
+    x
+}
+
+// One word of X times an element: x, from the place below, less the top word where the modulus has a coefficient m, 0 or 1.
+fn down(k: u64, top: u64, x: u64, m: u64) -> u64
+    requires { ⌜ ((1 ≤ k) × (k ≤ 64)) × (m ≤ 1) ⌝ }
+    ensures { λ r. ⌜ r ≡ downW k top x m ⌝ }
+{
+    words::sub(k, x, pick(m, top))
+}
+
+// X times r, over six words. What stands at d and above never comes down, and is not cleared here.
+fn shift(k: u64, d: usize, low: [u64; 6], r: [u64; 6]) -> [u64; 6]
+    requires { ⌜ ((1 ≤ k) × (k ≤ 64)) × ((2 ≤ d) × (d ≤ 6)) × (low ≡ held d (lower d)) ⌝ }
+    ensures { λ s. ⌜ s ≡ zip (downW k (getD r (d - 1) 0)) (0 ∷ r) low ⌝ }
+{
+    let top = r[d - 1];
+    [
+        down(k, top, 0, low[0]),
+        down(k, top, r[0], low[1]),
+        down(k, top, r[1], low[2]),
+        down(k, top, r[2], low[3]),
+        down(k, top, r[3], low[4]),
+        down(k, top, r[4], low[5]),
+    ]
+}
+
+// w at a place j below d, and zero from there on.
+fn below(d: usize, j: usize, w: u64) -> u64
+    ensures { λ r. ⌜ r ≡ cond (ltb j d) w 0 ⌝ }
+{
+    if j < d {
+        return w;
+    }
+    0
+}
+
+// The first d words, and zeros after them.
+pub fn keep(d: usize, a: [u64; 6]) -> [u64; 6]
+    requires { ⌜ d ≤ 6 ⌝ }
+    ensures { λ r. ⌜ r ≡ held d a ⌝ }
+{
+    [
+        below(d, 0, a[0]),
+        below(d, 1, a[1]),
+        below(d, 2, a[2]),
+        below(d, 3, a[3]),
+        below(d, 4, a[4]),
+        below(d, 5, a[5]),
+    ]
+}
+
+// X times r.
+pub fn times_x(k: u64, d: usize, low: [u64; 6], r: [u64; 6]) -> [u64; 6]
+    requires { ⌜ ((1 ≤ k) × (k ≤ 64)) × ((2 ≤ d) × (d ≤ 6)) × (low ≡ held d (lower d)) ⌝ }
+    ensures { λ s. ⌜ s ≡ held d (timesX k (lower d) (take d r)) ⌝ }
+{
+    keep(d, shift(k, d, low, r))
+}
+
+// One word of a sum with a multiple: x plus c times y.
+fn plus(k: u64, c: u64, x: u64, y: u64) -> u64
+    requires { ⌜ (1 ≤ k) × (k ≤ 64) ⌝ }
+    ensures { λ r. ⌜ r ≡ plusW k c x y ⌝ }
+{
+    words::add(k, x, words::mul(k, c, y))
+}
+
+// The same for c 0 or 1, with no product.
+fn plus_picked(k: u64, c: u64, x: u64, y: u64) -> u64
+    requires { ⌜ ((1 ≤ k) × (k ≤ 64)) × (c ≤ 1) ⌝ }
+    ensures { λ r. ⌜ r ≡ plusW k c x y ⌝ }
+{
+    words::add(k, x, pick(c, y))
+}
+
+// s plus the word c times b.
+fn add_scaled(k: u64, c: u64, s: [u64; 6], b: [u64; 6]) -> [u64; 6]
+    requires { ⌜ (1 ≤ k) × (k ≤ 64) ⌝ }
+    ensures { λ r. ⌜ r ≡ addScaled k c s b ⌝ }
+{
+    [
+        plus(k, c, s[0], b[0]),
+        plus(k, c, s[1], b[1]),
+        plus(k, c, s[2], b[2]),
+        plus(k, c, s[3], b[3]),
+        plus(k, c, s[4], b[4]),
+        plus(k, c, s[5], b[5]),
+    ]
+}
+
+// The same for c 0 or 1.
+fn add_picked(k: u64, c: u64, s: [u64; 6], b: [u64; 6]) -> [u64; 6]
+    requires { ⌜ ((1 ≤ k) × (k ≤ 64)) × (c ≤ 1) ⌝ }
+    ensures { λ r. ⌜ r ≡ addScaled k c s b ⌝ }
+{
+    [
+        plus_picked(k, c, s[0], b[0]),
+        plus_picked(k, c, s[1], b[1]),
+        plus_picked(k, c, s[2], b[2]),
+        plus_picked(k, c, s[3], b[3]),
+        plus_picked(k, c, s[4], b[4]),
+        plus_picked(k, c, s[5], b[5]),
+    ]
+}
+
+// a times b, by Horner's rule over the words of a from the top.
+pub fn product(k: u64, d: usize, low: [u64; 6], a: [u64; 6], b: [u64; 6]) -> [u64; 6]
+    requires { ⌜ ((1 ≤ k) × (k ≤ 64)) × ((2 ≤ d) × (d ≤ 6)) × (low ≡ held d (lower d)) ⌝ }
+    ensures { λ r. ⌜ r ≡ held d (product k (lower d) (take d a) (take d b)) ⌝ }
+{
+    let mut r = [0u64; 6];
+    let mut i = d;
+    while 0 < i {
+        i -= 1;
+        let s = shift(k, d, low, r);
+        r = add_scaled(k, a[i], s, b);
+    }
+    keep(d, r)
+}
+
+// The point of holder i: word j is bit j of i.
+pub fn point(i: u64) -> [u64; 6]
+    ensures { λ r. ⌜ r ≡ point 6 i ⌝ }
+{
+    let i1 = i / 2;
+    let i2 = i1 / 2;
+    let i3 = i2 / 2;
+    let i4 = i3 / 2;
+    let i5 = i4 / 2;
+    [i % 2, i1 % 2, i2 % 2, i3 % 2, i4 % 2, i5 % 2]
+}
+
+// The point of holder i times a: shifts and sums, one for each bit of i from the top.
+pub fn product_by_point(k: u64, d: usize, low: [u64; 6], a: [u64; 6], i: u64) -> [u64; 6]
+    requires { ⌜ ((1 ≤ k) × (k ≤ 64)) × ((2 ≤ d) × (d ≤ 6)) × (low ≡ held d (lower d)) ⌝ }
+    ensures { λ r. ⌜ r ≡ held d (product k (lower d) (point d i) (take d a)) ⌝ }
+{
+    let mut r = [0u64; 6];
+    let mut j = d;
+    while 0 < j {
+        j -= 1;
+        let s = shift(k, d, low, r);
+        r = add_picked(k, (i >> j) % 2, s, a);
+    }
+    keep(d, r)
+}
+
+// a^(2^d - 2) modulo two: there the inverse of what has one.
+fn fermat(d: usize, low: [u64; 6], a: [u64; 6]) -> [u64; 6]
+    requires { ⌜ ((2 ≤ d) × (d ≤ 6)) × (low ≡ held d (lower d)) ⌝ }
+    ensures { λ r. ⌜ r ≡ held d (fermat d (take d a) (d - 1)) ⌝ }
+{
+    let mut y = [1, 0, 0, 0, 0, 0];
+    let mut i = 1;
+    while i < d {
+        let z = product(1, d, low, y, a);
+        y = product(1, d, low, z, z);
+        i += 1;
+    }
+    y
+}
+
+// Newton's step: an inverse of a modulo 2^j becomes one modulo 2^(2j).
+fn newton(k: u64, d: usize, low: [u64; 6], a: [u64; 6], y: [u64; 6]) -> [u64; 6]
+    requires { ⌜ ((1 ≤ k) × (k ≤ 64)) × ((2 ≤ d) × (d ≤ 6)) × (low ≡ held d (lower d)) ⌝ }
+    ensures { λ r. ⌜ r ≡ held d (newton k d (take d a) (take d y)) ⌝ }
+{
+    let p = product(k, d, low, a, y);
+    let q = difference(k, [2, 0, 0, 0, 0, 0], p);
+    product(k, d, low, y, q)
+}
+
+// The inverse, or zero for what is zero modulo two: six steps reach 64 bits.
+pub fn inverse_of(k: u64, d: usize, low: [u64; 6], a: [u64; 6]) -> [u64; 6]
+    requires { ⌜ ((1 ≤ k) × (k ≤ 64)) × ((2 ≤ d) × (d ≤ 6)) × (low ≡ held d (lower d)) ⌝ }
+    ensures { λ r. ⌜ r ≡ held d (inverse k d (take d a)) ⌝ }
+{
+    let mut y = fermat(d, low, a);
+    let mut i: usize = 0;
+    while i < 6 {
+        let z = newton(k, d, low, a, y);
+        y = z;
+        i += 1;
+    }
+    y
+}
+
+// An element read from a lent list, from `at` on.
+pub fn load(d: usize, s: &[u64], at: usize) -> [u64; 6]
+    requires { ⌜ (d ≤ 6) × (at + d ≤ length (now s)) ⌝ }
+    ensures { λ r. ⌜ r ≡ held d (drop at (now (s .entry))) ⌝ }
+{
+    let mut r = [0u64; 6];
+    let mut j = 0;
+    while j < d {
+        r[j] = s[at + j];
+        j += 1;
+    }
+    r
+}
+
+// The d words of an element, into a lent list from `at` on.
+pub fn store(d: usize, out: &mut [u64], at: usize, e: [u64; 6])
+    requires { ⌜ (d ≤ 6) × (at + d ≤ length (now out)) ⌝ }
+    ensures { λ _. ⌜ now (out .exit) ≡ take at (now (out .entry)) ++ take d e ++ drop (at + d) (now (out .entry)) ⌝ }
+{
+    let mut j = 0;
+    while j < d {
+        out[at + j] = e[j];
+        j += 1;
+    }
+}
+
+// The fault of a call with two operands and an output of n words.
+fn operands_fault(p: words::Params, a: &[u64], b: &[u64], n: usize) -> u8
+    ensures { λ r. ⌜ r ≡ operandsFault p (now (a .entry)) (now (b .entry)) n ⌝ }
+{
+    if !words::params_ok(p) {
+        return words::PARAMETERS;
+    }
+    if a.len() != p.d {
+        return words::LENGTH;
+    }
+    if b.len() != p.d {
+        return words::LENGTH;
+    }
+    if n != p.d {
+        return words::LENGTH;
+    }
+    if !words::all_in_width(p.k, a) {
+        return words::WIDE_WORD;
+    }
+    if !words::all_in_width(p.k, b) {
+        return words::WIDE_WORD;
+    }
+    0
+}
+
+// The sum of two lent elements.
+pub fn add(p: words::Params, a: &[u64], b: &[u64], out: &mut [u64]) -> u8
+    ensures { λ r. ⌜ (r ≡ operandsFault p (now (a .entry)) (now (b .entry)) (length (now (out .entry))))
+        × (now (out .exit) ≡ kept (operandsFault p (now (a .entry)) (now (b .entry)) (length (now (out .entry))))
+        (now (out .entry)) (sum (p .k) (now (a .entry)) (now (b .entry)))) ⌝ }
+{
+    let fault = operands_fault(p, a, b, out.len());
+    if fault != 0 {
+        return fault;
+    }
+    let x = load(p.d, a, 0);
+    let y = load(p.d, b, 0);
+    store(p.d, out, 0, sum(p.k, x, y));
+    0
+}
+
+// The product of two lent elements.
+pub fn multiply(p: words::Params, a: &[u64], b: &[u64], out: &mut [u64]) -> u8
+    ensures { λ r. ⌜ (r ≡ operandsFault p (now (a .entry)) (now (b .entry)) (length (now (out .entry))))
+        × (now (out .exit) ≡ kept (operandsFault p (now (a .entry)) (now (b .entry)) (length (now (out .entry))))
+        (now (out .entry)) (product (p .k) (lower (p .d)) (now (a .entry)) (now (b .entry)))) ⌝ }
+{
+    let fault = operands_fault(p, a, b, out.len());
+    if fault != 0 {
+        return fault;
+    }
+    let x = load(p.d, a, 0);
+    let y = load(p.d, b, 0);
+    store(p.d, out, 0, product(p.k, p.d, lower_of(p.d), x, y));
+    0
+}
+
+// The inverse of a lent element, or zero where it has none.
+pub fn invert(p: words::Params, a: &[u64], out: &mut [u64]) -> u8
+    ensures { λ r. ⌜ (r ≡ operandFault p (now (a .entry)) (length (now (out .entry))))
+        × (now (out .exit) ≡ kept (operandFault p (now (a .entry)) (length (now (out .entry))))
+        (now (out .entry)) (inverse (p .k) (p .d) (now (a .entry)))) ⌝ }
+{
+    let fault = operands_fault(p, a, a, out.len());
+    if fault != 0 {
+        return fault;
+    }
+    let x = load(p.d, a, 0);
+    store(p.d, out, 0, inverse_of(p.k, p.d, lower_of(p.d), x));
+    0
+}

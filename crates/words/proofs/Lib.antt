@@ -3,3 +3,5 @@ pub mod Mod
 pub mod Tests
 pub mod Refusal
 pub mod InRange
+pub mod Width
+pub mod Reading

@@ -5,7 +5,7 @@ use native.Mathlib.Omega.{arith}
 use native.Mathlib.Nat.{not-suc-le-zero}
 use native.Mathlib.Decide.{decLe}
 use mathlib.Core.Bool.{Bool, true, false}
-use Rattle.words.specs.Refusal.{first, unless, firstOf}
+use Rattle.words.specs.Refusal.{first, unless, firstOf, kept}
 
 -- no fault is the first of two only where neither is
 pub first-left : (a b : ℕ) → first a b ≡ 0 → a ≡ 0
@@ -86,3 +86,11 @@ unfolding firstOf
 firstOf-zero f zero h = refl
 firstOf-zero f (suc n) h =
     first-none (firstOf f n) (f n) (firstOf-zero f n (λ i l. h i (omega arith))) ∙ h n (omega arith)
+
+-- what an output holds
+pub kept-none : {A : Type 0} (c : ℕ) (old new : A) → c ≡ 0 → kept c old new ≡ new
+kept-none c old new e = rw e
+
+pub kept-some : {A : Type 0} (c : ℕ) (old new : A) → (c ≡ 0 → ⊥) → kept c old new ≡ old
+kept-some zero old new n = absurd (n refl)
+kept-some (suc c) old new n = refl

@@ -1,3 +1,4 @@
 pub mod Refusal
 pub mod Params
 pub mod Word
+pub mod Signed

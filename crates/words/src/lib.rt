@@ -1,8 +1,9 @@
 // Words of k bits, 1 to 64, held in a u64; the parameters of an archive; the numbers of refusals.
 ghost use mathlib.Core.Path.{_≡_};
-ghost use Prim.Native.Nat.{_+_, _*_, _%_, _^_, _≤_};
-ghost use Rattle.words.specs.Word.{addW, subW, mulW};
+ghost use Prim.Native.Nat.{_+_, _*_, _%_, _^_, _≤_, _<_};
+ghost use Rattle.words.specs.Word.{addW, subW, mulW, inWidth, allInWidth};
 ghost use Rattle.words.specs.Params.{paramsOk};
+ghost use Rattle.words.specs.Signed.{signedOf};
 
 // Why a call declines, by the numbers of paper 01; 0 is no refusal.
 pub const PARAMETERS: u8 = 1;
@@ -110,4 +111,49 @@ pub fn mul(k: u64, a: u64, b: u64) -> u64
     ensures { λ r. ⌜ r ≡ mulW k a b ⌝ }
 {
     low_bits(mul64(a, b), k)
+}
+
+// Whether a word is below 2^k: its lowest k bits are all of it.
+pub fn in_width(k: u64, w: u64) -> bool
+    requires { ⌜ (1 ≤ k) × (k ≤ 64) ⌝ }
+    ensures { λ r. ⌜ r ≡ inWidth k w ⌝ }
+{
+    low_bits(w, k) == w
+}
+
+pub fn all_in_width(k: u64, s: &[u64]) -> bool
+    requires { ⌜ (1 ≤ k) × (k ≤ 64) ⌝ }
+    ensures { λ r. ⌜ r ≡ allInWidth k (now (s .entry)) ⌝ }
+{
+    let mut i = 0;
+    while i < s.len() {
+        if !in_width(k, s[i]) {
+            return false;
+        }
+        i += 1;
+    }
+    true
+}
+
+// A word as sign and magnitude.
+pub struct Signed {
+    pub negative: bool,
+    pub magnitude: u64,
+}
+
+// The signed reading of a word: its top bit is the sign.
+pub fn read_signed(k: u64, w: u64) -> Signed
+    requires { ⌜ ((1 ≤ k) × (k ≤ 64)) × (w < 2 ^ k) ⌝ }
+    ensures { λ r. ⌜ r ≡ signedOf k w ⌝ }
+{
+    if w >> (k - 1) == 0 {
+        return Signed {
+            negative: false,
+            magnitude: w,
+        };
+    }
+    Signed {
+        negative: true,
+        magnitude: sub(k, 0, w),
+    }
 }

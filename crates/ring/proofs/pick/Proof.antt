@@ -1,0 +1,20 @@
+use mathlib.Core.Path.{_≡_}
+use native.Mathlib.Nat.{zero-mul, one-mul}
+use native.Mathlib.Omega.{arith}
+use Rattle.ring.proofs.pick.Statement.{statement}
+use Rattle.ring.proofs.pick.Tie as tie
+use Rattle.ring.proofs.pick.Reads as reads
+use Rattle.ring.proofs.pick.Lts as lts
+
+-- src/lib.rt:61:9
+returns : tie.Need-returns
+returns c = rw (c .if1 .taken, zero-mul)
+
+-- src/lib.rt:56:1
+returns-2 : tie.Need-returns-2
+returns-2 c =
+    let e : c .before .args .c ≡ 1 = omega (arith, c .if1 .left) in
+    rw (e, one-mul)
+
+pub pick-spec : {M : Type 1} → statement M
+pick-spec = tie.close (tie.spec returns returns-2)

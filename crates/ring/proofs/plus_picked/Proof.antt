@@ -1,0 +1,26 @@
+use mathlib.Core.Path.{_∙_}
+use Rattle.ring.proofs.Held.{plus-picked}
+use borrow.Author.Needs.{needs}
+use Rattle.ring.proofs.plus_picked.Statement.{statement}
+use Rattle.ring.proofs.plus_picked.Tie as tie
+use Rattle.ring.proofs.plus_picked.Reads as reads
+use Rattle.ring.proofs.plus_picked.Lts as lts
+use Rattle.ring.proofs.pick.Reads as pick-reads
+use Rattle.words.proofs.add.Reads as add-reads
+
+-- src/lib.rt:138:22
+pick-requires : tie.Need-pick-requires
+pick-requires c κs = search needs
+
+-- src/lib.rt:138:5
+add-requires : tie.Need-add-requires
+add-requires c κs = search needs
+
+-- src/lib.rt:134:1
+returns : tie.Need-returns
+returns c =
+    let s = c .before .before in
+    c .add .ensures ∙ rw (c .before .pick .ensures) (plus-picked (s .args .k) (s .args .c) (s .args .x) (s .args .y))
+
+pub plus-picked-spec : {M : Type 1} → statement M
+plus-picked-spec = tie.close (tie.spec pick-requires add-requires returns)
