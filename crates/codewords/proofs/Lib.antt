@@ -1,0 +1,10 @@
+pub mod Candidate
+pub mod ErrorSet
+pub mod Examples
+pub mod Find
+pub mod Join
+pub mod Linear
+pub mod Raised
+pub mod Rise
+pub mod Unique
+pub mod Value

@@ -1,0 +1,156 @@
+-- The value is linear in the coefficients: sums and multiples of dealt shares are the shares of the sum or the multiple of the polynomials
+-- (`dealt-sum`, `dealt-multiple`). And t + 1 + 2e dealt shares or more, of which up to e are changed in any way, have the dealing
+-- polynomial for their codeword (`dealt-codeword`). Assumes nothing.
+use mathlib.Core.Path.{_≡_, refl, sym, _∙_, ap, ap₂}
+use mathlib.Core.Bool.{not}
+use mathlib.Core.List.{List, [], _∷_, map, head-eq-of-cons-eq, tail-eq-of-cons-eq}
+use mathlib.Core.Option.{some}
+use Prim.Native.Nat.{ℕ, suc, _+_, _*_, _≤_}
+use native.Mathlib.Nat.{suc-inj, suc-ne-zero}
+use lib.ListN.{length, length-map}
+use Rattle.algebra.specs.Poly.{eval}
+use Rattle.algebra.specs.Shares.{All}
+use Rattle.algebra.proofs.Shares.{all-map}
+use Rattle.algebra.proofs.Poly.{padd, scale, eval-padd, eval-scale}
+use Rattle.ring.specs.Element.{Element, sum, product, lower, point, same}
+use Rattle.ring.proofs.Galois.{GR}
+use Rattle.ring.proofs.Table.{length-lower}
+use Rattle.ring.proofs.Lists.{toList, ofList, length-toList, of-to, width-to, sum-of, sum-to, product-of}
+use Rattle.ring.proofs.Elements.{same-refl}
+use Rattle.ring.proofs.Points.{length-point}
+use Rattle.codewords.specs.Codeword.{Share, Polynomial, value, when, differs, errors, codeword}
+use Rattle.codewords.specs.WellFormed.{IsElement, IsPoly, Holders}
+use Rattle.codewords.proofs.Value.{polyOf, Rows, rows-of, value-of}
+use Rattle.codewords.proofs.Unique.{codeword-complete}
+
+-- the sum of two polynomials of one length, and a polynomial times an element, coefficient by coefficient
+unfoldable pub sums : ℕ → Polynomial → Polynomial → Polynomial
+sums k [] q = []
+sums k (a ∷ p) [] = []
+sums k (a ∷ p) (b ∷ q) = sum k a b ∷ sums k p q
+
+abbrev pub multiple : ℕ → ℕ → Element → Polynomial → Polynomial
+multiple k d c = map (product k (lower d) c)
+
+-- the share of a holder, dealt from p
+abbrev pub dealt : ℕ → ℕ → Polynomial → ℕ → Share
+dealt k d p h = record { holder = h; words = value k d p (point d h) }
+
+module _ (k : ℕ) where
+  length-sums : (p q : Polynomial) → length p ≡ length q → length (sums k p q) ≡ length p
+  unfolding sums
+  length-sums [] q l = refl
+  length-sums (a ∷ p) [] l = absurd (suc-ne-zero (length p) l)
+  length-sums (a ∷ p) (b ∷ q) l = ap suc (length-sums p q (suc-inj l))
+
+  sum-element : (d : ℕ) (a b : Element) → length a ≡ d → length b ≡ d → IsElement k d (sum k a b)
+  sum-element d a b l m =
+      let u = GR d k .add (ofList k d a) (ofList k d b) in
+      rw (sum-of k d a b l m) (length-toList u, width-to k u)
+
+  sums-elements : (d : ℕ) (p q : Polynomial) → Rows d p → Rows d q → All (IsElement k d) (sums k p q)
+  unfolding sums
+  sums-elements d [] q x y = tt
+  sums-elements d (a ∷ p) [] x y = tt
+  sums-elements d (a ∷ p) (b ∷ q) x y = (sum-element d a b (x .0) (y .0), sums-elements d p q (x .1) (y .1))
+
+  sums-of : (d : ℕ) (p q : Polynomial) → Rows d p → Rows d q → length p ≡ length q →
+      polyOf k d (sums k p q) ≡ padd (GR d k) (polyOf k d p) (polyOf k d q)
+  unfolding sums
+  sums-of d [] [] x y l = refl
+  sums-of d [] (b ∷ q) x y l = absurd (suc-ne-zero (length q) (sym l))
+  sums-of d (a ∷ p) [] x y l = absurd (suc-ne-zero (length p) l)
+  sums-of d (a ∷ p) (b ∷ q) x y l =
+      ap₂ _∷_ (ap (ofList k d) (sum-of k d a b (x .0) (y .0)) ∙ of-to k (GR d k .add (ofList k d a) (ofList k d b)))
+      (sums-of d p q (x .1) (y .1) (suc-inj l))
+
+  pub sums-is-poly : (d t : ℕ) (p q : Polynomial) → IsPoly k d t p → IsPoly k d t q → IsPoly k d t (sums k p q)
+  sums-is-poly d t p q x y =
+      (length-sums p q (x .0 ∙ sym (y .0)) ∙ x .0, sums-elements d p q (rows-of k d t p x) (rows-of k d t q y))
+
+module _ (d : ℕ) (dl : 2 ≤ d) (dh : d ≤ 6) (k : ℕ) where
+  len : length (lower d) ≡ d
+  len = length-lower d dl dh
+
+  -- the value of a sum is the sum of the values
+  pub value-sum : (p q : Polynomial) → Rows d p → Rows d q → length p ≡ length q → (x : Element) → length x ≡ d →
+      value k d (sums k p q) x ≡ sum k (value k d p x) (value k d q x)
+  value-sum p q r s l x m =
+      let R = GR d k in
+      let z = ofList k d x in
+      value-of d dl dh k (sums k p q) (all-map (λ c e. e .0) (sums k p q) (sums-elements k d p q r s)) x m
+      ∙ ap toList (ap (λ f. eval R f z) (sums-of k d p q r s l) ∙ eval-padd R (polyOf k d p) (polyOf k d q) z)
+      ∙ sym (ap₂ (sum k) (value-of d dl dh k p r x m) (value-of d dl dh k q s x m) ∙ sum-to k (eval R (polyOf k d p) z) (eval R (polyOf k d q) z))
+
+  -- multiples
+  multiple-element : (c a : Element) → length c ≡ d → length a ≡ d → IsElement k d (product k (lower d) c a)
+  multiple-element c a l m =
+      let u = GR d k .mul (ofList k d c) (ofList k d a) in
+      rw (product-of k d (lower d) len d c a l m) (length-toList u, width-to k u)
+
+  multiple-elements : (c : Element) → length c ≡ d → (p : Polynomial) → Rows d p → All (IsElement k d) (multiple k d c p)
+  multiple-elements c l [] x = tt
+  multiple-elements c l (a ∷ p) x = (multiple-element c a l (x .0), multiple-elements c l p (x .1))
+
+  multiple-of : (c : Element) → length c ≡ d → (p : Polynomial) → Rows d p →
+      polyOf k d (multiple k d c p) ≡ scale (GR d k) (ofList k d c) (polyOf k d p)
+  multiple-of c l [] x = refl
+  multiple-of c l (a ∷ p) x =
+      ap₂ _∷_ (ap (ofList k d) (product-of k d (lower d) len d c a l (x .0)) ∙ of-to k (GR d k .mul (ofList k d c) (ofList k d a)))
+      (multiple-of c l p (x .1))
+
+  pub multiple-is-poly : (t : ℕ) (c : Element) → length c ≡ d → (p : Polynomial) → IsPoly k d t p → IsPoly k d t (multiple k d c p)
+  multiple-is-poly t c l p x = (length-map p (product k (lower d) c) ∙ x .0, multiple-elements c l p (rows-of k d t p x))
+
+  -- the value of a multiple is the multiple of the value
+  pub value-multiple : (c : Element) → length c ≡ d → (p : Polynomial) → Rows d p → (x : Element) → length x ≡ d →
+      value k d (multiple k d c p) x ≡ product k (lower d) c (value k d p x)
+  value-multiple c l p r x m =
+      let R = GR d k in
+      let z = ofList k d x in
+      let v = eval R (polyOf k d p) z in
+      value-of d dl dh k (multiple k d c p) (all-map (λ b e. e .0) (multiple k d c p) (multiple-elements c l p r)) x m
+      ∙ ap toList (ap (λ f. eval R f z) (multiple-of c l p r) ∙ eval-scale R (ofList k d c) (polyOf k d p) z)
+      ∙ sym (ap (product k (lower d) c) (value-of d dl dh k p r x m)
+      ∙ product-of k d (lower d) len d c (toList v) l (length-toList v) ∙ ap (λ u. toList (R .mul (ofList k d c) u)) (of-to k v))
+
+  -- so with dealt shares
+  pub dealt-sum : (t : ℕ) (p q : Polynomial) → IsPoly k d t p → IsPoly k d t q → (h : ℕ) →
+      dealt k d (sums k p q) h .words ≡ sum k (dealt k d p h .words) (dealt k d q h .words)
+  dealt-sum t p q x y h =
+      value-sum p q (rows-of k d t p x) (rows-of k d t q y) (x .0 ∙ sym (y .0)) (point d h) (length-point d h)
+
+  pub dealt-multiple : (t : ℕ) (c : Element) → length c ≡ d → (p : Polynomial) → IsPoly k d t p → (h : ℕ) →
+      dealt k d (multiple k d c p) h .words ≡ product k (lower d) c (dealt k d p h .words)
+  dealt-multiple t c l p x h = value-multiple c l p (rows-of k d t p x) (point d h) (length-point d h)
+
+-- how many shares of the second list hold other words than those of the first in the same place
+unfoldable pub changed : List Share → List Share → ℕ
+unfolding same
+changed [] rs = 0
+changed (s ∷ ss) [] = 0
+changed (s ∷ ss) (r ∷ rs) = when (not (same (r .words) (s .words))) 1 + changed ss rs
+
+-- no dealt share differs
+pub errors-dealt : (k d : ℕ) (p : Polynomial) (hs : List ℕ) → errors k d p (map (dealt k d p) hs) ≡ 0
+unfolding errors differs
+errors-dealt k d p [] = refl
+errors-dealt k d p (h ∷ hs) = ap₂ (λ b n. when (not b) 1 + n) (same-refl (value k d p (point d h))) (errors-dealt k d p hs)
+
+-- and of changed ones those that are changed
+pub errors-changed : (k d : ℕ) (p : Polynomial) (hs : List ℕ) (rs : List Share) → map (λ (r : Share). r .holder) rs ≡ hs →
+    errors k d p rs ≡ changed (map (dealt k d p) hs) rs
+unfolding errors differs changed
+errors-changed k d p [] [] e = refl
+errors-changed k d p [] (r ∷ rs) e = absurd (suc-ne-zero _ (ap length e))
+errors-changed k d p (h ∷ hs) [] e = absurd (suc-ne-zero _ (sym (ap length e)))
+errors-changed k d p (h ∷ hs) (r ∷ rs) e =
+    ap₂ (λ i n. when (not (same (r .words) (value k d p (point d i)))) 1 + n) (head-eq-of-cons-eq e)
+    (errors-changed k d p hs rs (tail-eq-of-cons-eq e))
+
+-- enough dealt shares, up to e of them changed, have the dealing polynomial for their codeword
+pub dealt-codeword : (d : ℕ) → 2 ≤ d → d ≤ 6 → (k t e : ℕ) (p : Polynomial) → IsPoly k d t p → (hs : List ℕ) (rs : List Share) →
+    map (λ (r : Share). r .holder) rs ≡ hs → Holders d rs → suc t + 2 * e ≤ length rs → changed (map (dealt k d p) hs) rs ≤ e →
+    codeword k d t e rs ≡ some p
+dealt-codeword d dl dh k t e p i hs rs h a m c =
+    codeword-complete d dl dh k t e rs p a m i (rw (errors-changed k d p hs rs h) c)

@@ -1,0 +1,122 @@
+-- Values, shares and errors of the definitions, as those of the ring: `value` is the ring's value, a share in width differs exactly when the
+-- ring says that the polynomial misses it, and a share of any words that does not differ is not missed. Assumes nothing.
+use mathlib.Core.Path.{_≡_, refl, sym, _∙_, ap, ap₂}
+use mathlib.Core.Bool.{Bool, true, false, not}
+use mathlib.Core.List.{List, [], _∷_, map}
+use Prim.Native.Nat.{ℕ, _+_, _≤_}
+use native.Mathlib.Omega.{arith}
+use lib.ListN.{length}
+use Rattle.words.proofs.Tests.{same-test}
+use Rattle.algebra.specs.Poly.{eval}
+use Rattle.algebra.specs.Shares as A
+use Rattle.algebra.specs.Shares.{bit, count, All, misses}
+use Rattle.algebra.proofs.Ring.{eqb-true}
+use Rattle.algebra.proofs.Shares.{all-map}
+use Rattle.ring.specs.Element.{Element, sum, product, lower, point, same}
+use Rattle.ring.proofs.Galois.{GR}
+use Rattle.ring.proofs.Table.{length-lower}
+use Rattle.ring.proofs.Lists.{toList, ofList, length-toList, of-to, to-of, width-to, zero-of, sum-of, product-of}
+use Rattle.ring.proofs.Elements.{same-eq, eq-same}
+use Rattle.ring.proofs.Points.{length-point, pointR}
+use Rattle.ring.proofs.Instance.{ringOf}
+use Rattle.codewords.specs.Codeword.{Share, Polynomial, value, differs, errors, when}
+use Rattle.codewords.specs.WellFormed.{IsElement, IsPoly, InWidth}
+use Rattle.codewords.proofs.Find.{fixed}
+
+-- a share and a polynomial in the ring: words are cut to k bits
+abbrev pub shareOf : (k d : ℕ) → Share → A.Share (GR d k)
+shareOf k d s = record { at = pointR d k (s .holder); val = ofList k d (s .words) }
+
+abbrev pub polyOf : (k d : ℕ) → Polynomial → List (GR d k .E)
+polyOf k d p = map (ofList k d) p
+
+-- each coefficient has d words
+abbrev pub Rows : ℕ → Polynomial → Type 0
+Rows d p = All (λ c. length c ≡ d) p
+
+pub rows-of : (k d t : ℕ) (p : Polynomial) → IsPoly k d t p → Rows d p
+rows-of k d t p h = all-map (λ c e. e .0) p (h .1)
+
+module _ (d : ℕ) (dl : 2 ≤ d) (dh : d ≤ 6) (k : ℕ) where
+  pub value-of : (p : Polynomial) → Rows d p → (x : Element) → length x ≡ d →
+      value k d p x ≡ toList (eval (GR d k) (polyOf k d p) (ofList k d x))
+  unfolding value
+  value-of [] h x l = zero-of k d
+  value-of (c ∷ p) h x l =
+      let v = eval (GR d k) (polyOf k d p) (ofList k d x) in
+      let w = GR d k .mul (ofList k d x) v in
+      ap (λ y. sum k c (product k (lower d) x y)) (value-of p (h .1) x l)
+      ∙ ap (sum k c)
+      (product-of k d (lower d) (length-lower d dl dh) d x (toList v) l (length-toList v)
+      ∙ ap (λ u. toList (GR d k .mul (ofList k d x) u)) (of-to k v))
+      ∙ sum-of k d c (toList w) (h .0) (length-toList w)
+      ∙ ap (λ u. toList (GR d k .add (ofList k d c) u)) (of-to k w)
+
+  pub value-at : (p : Polynomial) → Rows d p → (s : Share) →
+      value k d p (point d (s .holder)) ≡ toList (eval (GR d k) (polyOf k d p) (shareOf k d s .at))
+  value-at p h s = value-of p h (point d (s .holder)) (length-point d (s .holder))
+
+  -- a value is an element
+  pub value-element : (p : Polynomial) → Rows d p → (s : Share) → IsElement k d (value k d p (point d (s .holder)))
+  value-element p h s =
+      let u = eval (GR d k) (polyOf k d p) (shareOf k d s .at) in
+      rw (value-at p h s) (length-toList u, width-to k u)
+
+  -- a share that does not differ holds the value
+  pub same-value : (p : Polynomial) → Rows d p → (s : Share) → same (s .words) (value k d p (point d (s .holder))) ≡ true →
+      eval (GR d k) (polyOf k d p) (shareOf k d s .at) ≡ shareOf k d s .val
+  same-value p h s e = sym (ap (ofList k d) (same-eq (s .words) (value k d p (point d (s .holder))) e ∙ value-at p h s) ∙ of-to k _)
+
+  -- so it is not missed
+  pub misses-le : (p : Polynomial) → Rows d p → (s : Share) → bit (misses (ringOf d k) (polyOf k d p) (shareOf k d s)) ≤ bit (differs k d p s)
+  unfolding differs
+  misses-le p h s = go (same (s .words) (value k d p (point d (s .holder)))) refl
+    where
+      any : (b : Bool) → bit b ≤ 1
+      any true = omega arith
+      any false = omega arith
+
+      go : (b : Bool) → same (s .words) (value k d p (point d (s .holder))) ≡ b →
+          bit (misses (ringOf d k) (polyOf k d p) (shareOf k d s)) ≤ bit (not (same (s .words) (value k d p (point d (s .holder)))))
+      go true e = rw (eqb-true (ringOf d k) (same-value p h s e)) (omega arith)
+      go false e = rw e (any (misses (ringOf d k) (polyOf k d p) (shareOf k d s)))
+
+  -- a share in width differs exactly when it is missed
+  pub differs-misses : (p : Polynomial) → Rows d p → (s : Share) → IsElement k d (s .words) →
+      differs k d p s ≡ misses (ringOf d k) (polyOf k d p) (shareOf k d s)
+  unfolding differs
+  differs-misses p h s w =
+      let u = eval (GR d k) (polyOf k d p) (shareOf k d s .at) in
+      let v = shareOf k d s .val in
+      let back : u ≡ v → s .words ≡ value k d p (point d (s .holder)) =
+      λ e. sym (to-of k d (s .words) (w .0) ∙ fixed k d (s .words) w) ∙ ap toList {x = v} {y = u} (sym e) ∙ sym (value-at p h s) in
+      ap not
+      (same-test (same (s .words) (value k d p (point d (s .holder)))) (ringOf d k .eqb u v) (λ e. eqb-true (ringOf d k) (same-value p h s e))
+      (λ e. eq-same (s .words) (value k d p (point d (s .holder))) (back (ringOf d k .eqb-eq u v e))))
+
+  -- the shares that differ are at least those that are missed, and in width they are the same
+  pub count-errors : (p : Polynomial) → Rows d p → (ss : List Share) →
+      count (misses (ringOf d k) (polyOf k d p)) (map (shareOf k d) ss) ≤ errors k d p ss
+  unfolding errors
+  count-errors p h [] = omega arith
+  count-errors p h (s ∷ ss) = go (differs k d p s) (misses-le p h s) (count-errors p h ss)
+    where
+      go : (b : Bool) → bit (misses (ringOf d k) (polyOf k d p) (shareOf k d s)) ≤ bit b →
+          count (misses (ringOf d k) (polyOf k d p)) (map (shareOf k d) ss) ≤ errors k d p ss →
+          bit (misses (ringOf d k) (polyOf k d p) (shareOf k d s)) + count (misses (ringOf d k) (polyOf k d p)) (map (shareOf k d) ss)
+          ≤ when b 1 + errors k d p ss
+      go true x y = omega arith
+      go false x y = omega arith
+
+  pub errors-count : (p : Polynomial) → Rows d p → (ss : List Share) → InWidth k d ss →
+      errors k d p ss ≡ count (misses (ringOf d k) (polyOf k d p)) (map (shareOf k d) ss)
+  unfolding errors
+  errors-count p h [] a = refl
+  errors-count p h (s ∷ ss) a = go (differs k d p s) (differs-misses p h s (a .0)) (errors-count p h ss (a .1))
+    where
+      go : (b : Bool) → b ≡ misses (ringOf d k) (polyOf k d p) (shareOf k d s) →
+          errors k d p ss ≡ count (misses (ringOf d k) (polyOf k d p)) (map (shareOf k d) ss) →
+          when b 1 + errors k d p ss
+          ≡ bit (misses (ringOf d k) (polyOf k d p) (shareOf k d s)) + count (misses (ringOf d k) (polyOf k d p)) (map (shareOf k d) ss)
+      go true x y = ap₂ (λ m n. m + n) (ap bit x) y
+      go false x y = ap₂ (λ m n. m + n) (ap bit x) y

@@ -1,0 +1,55 @@
+-- Polynomials, shares and which of them differ, paper 01, "Ring, points, shares"; the codeword within an error bound, if there is one,
+-- without any algorithm. Assumes nothing.
+use Prim.Native.Nat.{ℕ, zero, suc, _+_, _-_, _^_}
+use mathlib.Core.Bool.{Bool, true, false, not}
+use mathlib.Core.List.{List, [], _∷_}
+use mathlib.Core.Option.{Option, none, some}
+use lib.Dec.{leb}
+use Rattle.ring.specs.Element.{Element, point, same, elements, tuples}
+pub use Rattle.polynomial.specs.Polynomial.{Polynomial}
+unfoldable pub use Rattle.polynomial.specs.Polynomial.{value}
+
+-- A share as it stands under a holder. Its words are plain numbers: one of 2^k or more differs from every value.
+pub record Share : Type 0 where
+  pub holder : ℕ
+  pub words : Element
+
+-- "A share differs from a polynomial if any of its words differs from the word in the same place of the polynomial's value at its holder's point."
+unfoldable pub differs : ℕ → ℕ → Polynomial → Share → Bool
+unfolding value same point
+differs k d p s = not (same (s .words) (value k d p (point d (s .holder))))
+
+abbrev pub when : Bool → ℕ → ℕ
+when true n = n
+when false n = 0
+
+-- how many of the shares differ
+unfoldable pub errors : ℕ → ℕ → Polynomial → List Share → ℕ
+unfolding differs
+errors k d p [] = 0
+errors k d p (s ∷ ss) = when (differs k d p s) 1 + errors k d p ss
+
+-- "The wrong holders are a set held as a 64-bit number, bit i − 1 for holder i"
+unfoldable pub errorSet : ℕ → ℕ → Polynomial → List Share → ℕ
+unfolding differs
+errorSet k d p [] = 0
+errorSet k d p (s ∷ ss) = when (differs k d p s) (2 ^ (s .holder - 1)) + errorSet k d p ss
+
+-- all polynomials of degree at most t
+unfoldable pub polynomials : ℕ → ℕ → ℕ → List Polynomial
+unfolding elements tuples
+polynomials k d t = tuples (elements k d) (suc t)
+
+-- the first in a list that passes a test
+unfoldable pub find : {A : Type 0} → (A → Bool) → List A → Option A
+find {A} t [] = none
+find {A} t (x ∷ xs) = pick (t x) (find t xs)
+  where
+    pick : Bool → Option A → Option A
+    pick true o = some x
+    pick false o = o
+
+-- the polynomial of degree at most t that differs from e shares or fewer
+unfoldable pub codeword : ℕ → ℕ → ℕ → ℕ → List Share → Option Polynomial
+unfolding polynomials find errors
+codeword k d t e ss = find (λ p. leb (errors k d p ss) e) (polynomials k d t)

@@ -1,0 +1,5 @@
+pub mod Change
+pub mod Newton
+pub mod OverRing
+pub mod Shape
+pub mod Turns

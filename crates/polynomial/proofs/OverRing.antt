@@ -1,0 +1,197 @@
+-- Rows as polynomials over the ring of the elements, `GR d k`: values, c p - e q and (Z - x) p of rows are those of the polynomials.
+-- Assumes nothing.
+use mathlib.Core.Path.{_≡_, refl, sym, _∙_, ap, ap₂}
+use mathlib.Core.Logic.{_⊎_}
+use mathlib.Core.List.{List, [], _∷_, map}
+use Prim.Native.Nat.{ℕ, zero, suc, _^_, _≤_, _<_}
+use native.Mathlib.Omega.{arith}
+use lib.ListN.{length, take, set, replicate, length-map}
+use lib.Seq.{length-take-le}
+use Rattle.algebra.specs.Ring.{CommRing}
+use Rattle.algebra.specs.Poly.{eval, coef}
+use Rattle.algebra.specs.Shares.{All}
+use Rattle.algebra.proofs.Vec.{cons}
+use Rattle.algebra.proofs.Poly.{Low, Same, lin, mulx, eval-same, same-take}
+use Rattle.ring.specs.Element.{Element, sum, difference, lower, product, oneE, held}
+use Rattle.ring.proofs.Zmod.{word}
+use Rattle.ring.proofs.Galois.{GR}
+use Rattle.ring.proofs.Table.{length-lower}
+use Rattle.ring.proofs.Lists.{toList, ofList, length-toList, of-to, sum-of, difference-to, product-of, zero-of, one-of}
+use Rattle.ring.proofs.Held.{held-take, held-length, zeros-held, to-six}
+use Rattle.polynomial.specs.Polynomial.{Polynomial, value}
+use Rattle.polynomial.specs.Rows.{Rows, Shaped, coefs, change, mixed, mixRows, lessTimes, rootRows}
+use Rattle.polynomial.proofs.Shape.{shaped-by}
+use Rattle.polynomial.proofs.Change.{change-map, change-lin, change-mulx}
+
+-- words beyond the n-th do not count
+pub of-take : (k n : ℕ) (a : Element) → ofList k n (take n a) ≡ ofList k n a
+of-take k zero a = refl
+of-take k (suc n) [] = refl
+of-take k (suc n) (x ∷ a) = ap (cons (word (2 ^ k) x)) (of-take k n a)
+
+module _ (k d : ℕ) where
+  -- the row of an element, and the polynomial of rows
+  abbrev pub row : GR d k .E → List ℕ
+  row u = held d (toList u)
+
+  abbrev pub polyOf : Rows → List (GR d k .E)
+  polyOf = map (ofList k d)
+
+  -- rows of elements: six words each, in width, with zeros after the d words
+  abbrev pub Exact : Rows → Type 0
+  Exact p = map row (polyOf p) ≡ p
+
+  pub take-row : (u : GR d k .E) → take d (row u) ≡ toList u
+  take-row u = held-take d (toList u) (length-toList u)
+
+  pub of-row : (u : GR d k .E) → ofList k d (row u) ≡ u
+  of-row u = sym (of-take k d (row u)) ∙ ap (ofList k d) (take-row u) ∙ of-to k u
+
+  pub length-row : d ≤ 6 → (u : GR d k .E) → length (row u) ≡ 6
+  length-row h u = held-length d (toList u) (length-toList u) h
+
+  pub row-zero : d ≤ 6 → row (GR d k .𝟘) ≡ replicate 6 0
+  row-zero h = ap (held d) (sym (zero-of k d)) ∙ zeros-held d h
+
+  pub row-one : 1 ≤ k → 1 ≤ d → d ≤ 6 → row (GR d k .𝟙) ≡ 1 ∷ replicate 5 0
+  row-one h l m =
+      ap (held d) (sym (one-of k h d))
+      ∙ to-six (λ n. 1 ≤ n → held n (oneE n) ≡ 1 ∷ replicate 5 0) (λ z. absurd (omega arith))
+      (λ _. refl) (λ _. refl) (λ _. refl) (λ _. refl) (λ _. refl) (λ _. refl) d m l
+
+  pub poly-rows : (us : List (GR d k .E)) → polyOf (map row us) ≡ us
+  poly-rows [] = refl
+  poly-rows (u ∷ us) = ap₂ _∷_ (of-row u) (poly-rows us)
+
+  pub exact-rows : (us : List (GR d k .E)) → Exact (map row us)
+  exact-rows us = ap (map row) (poly-rows us)
+
+  -- what is equal to the rows of some elements
+  pub exact-by : (p : Rows) (us : List (GR d k .E)) → p ≡ map row us → Exact p
+  exact-by p us e = ap (λ q. map row (polyOf q)) e ∙ exact-rows us ∙ sym e
+
+  pub poly-by : (p : Rows) (us : List (GR d k .E)) → p ≡ map row us → polyOf p ≡ us
+  poly-by p us e = ap polyOf e ∙ poly-rows us
+
+  pub exact-length : d ≤ 6 → (p : Rows) → Exact p → All (λ r. length r ≡ 6) p
+  exact-length h p e = rw (← e) (go (polyOf p))
+    where
+      go : (us : List (GR d k .E)) → All (λ r. length r ≡ 6) (map row us)
+      go [] = tt
+      go (u ∷ us) = (length-row h u, go us)
+
+  pub exact-shaped : d ≤ 6 → (p : Rows) → Exact p → length p ≡ 64 → Shaped p
+  exact-shaped h p e l = shaped-by p (exact-length h p e) l
+
+  -- the rows of the zero polynomial, and of one
+  pub zero-rows : d ≤ 6 → (n : ℕ) → replicate n (replicate 6 0) ≡ map row (replicate n (GR d k .𝟘))
+  zero-rows h zero = refl
+  zero-rows h (suc n) = ap₂ _∷_ (sym (row-zero h)) (zero-rows h n)
+
+  pub one-rows : 1 ≤ k → 1 ≤ d → d ≤ 6 → (n : ℕ) → (1 ∷ replicate 5 0) ∷ replicate n (replicate 6 0) ≡ map row (GR d k .𝟙 ∷ replicate n (GR d k .𝟘))
+  one-rows h l m n = ap₂ _∷_ (sym (row-one h l m)) (zero-rows m n)
+
+  -- a row of an element in a place
+  pub exact-set : (p : Rows) (i : ℕ) (u : GR d k .E) → Exact p → Exact (set p i (row u))
+  exact-set p i u e = ap (λ q. map row (polyOf (set q i (row u)))) (sym e) ∙ go (polyOf p) i ∙ ap (λ q. set q i (row u)) e
+    where
+      go : (us : List (GR d k .E)) (i : ℕ) → map row (polyOf (set (map row us) i (row u))) ≡ set (map row us) i (row u)
+      go [] i = refl
+      go (v ∷ us) zero = ap₂ _∷_ (ap row (of-row u)) (exact-rows us)
+      go (v ∷ us) (suc i) = ap₂ _∷_ (ap row (of-row v)) (go us i)
+
+  -- the polynomial of rows that are long enough
+  poly-coefs : (n : ℕ) (p : Rows) → polyOf (coefs d n p) ≡ take n (polyOf p)
+  poly-coefs zero p = refl
+  poly-coefs (suc n) [] = refl
+  poly-coefs (suc n) (a ∷ p) = ap₂ _∷_ (of-take k d a) (poly-coefs n p)
+
+  coefs-length : d ≤ 6 → (n : ℕ) (p : Rows) → All (λ r. length r ≡ 6) p → All (λ r. length r ≡ d) (coefs d n p)
+  coefs-length h zero p l = tt
+  coefs-length h (suc n) [] l = tt
+  coefs-length h (suc n) (a ∷ p) (l, m) = (length-take-le d a (rw l h), coefs-length h n p m)
+
+  module _ (dl : 2 ≤ d) (dh : d ≤ 6) where
+    infixl 65 _⊕_
+    infixl 70 _⊗_
+    open CommRing (GR d k) using (E, add as _⊕_, mul as _⊗_, neg as ⊖, 𝟘)
+
+    product-row : (c : Element) (u : E) → length c ≡ d → product k (lower d) c (toList u) ≡ toList (ofList k d c ⊗ u)
+    product-row c u l =
+        product-of k d (lower d) (length-lower d dl dh) d c (toList u) l (length-toList u) ∙ ap (λ v. toList (ofList k d c ⊗ v)) (of-to k u)
+
+    pub value-of : (cs : Polynomial) (x : Element) → All (λ c. length c ≡ d) cs → length x ≡ d
+        → value k d cs x ≡ toList (eval (GR d k) (polyOf cs) (ofList k d x))
+    unfolding value
+    value-of [] x l m = zero-of k d
+    value-of (c ∷ cs) x (l, ls) m =
+        let v = eval (GR d k) (polyOf cs) (ofList k d x) in
+        let w = ofList k d x ⊗ v in
+        ap (λ r. sum k c (product k (lower d) x r)) (value-of cs x ls m)
+        ∙ ap (sum k c) (product-row x v m)
+        ∙ sum-of k d c (toList w) l (length-toList w)
+        ∙ ap (λ r. toList (ofList k d c ⊕ r)) (of-to k w)
+
+    -- the value of the first n rows
+    pub value-rows : (n : ℕ) (p : Rows) (x : Element) → All (λ r. length r ≡ 6) p → length x ≡ d
+        → value k d (coefs d n p) x ≡ toList (eval (GR d k) (take n (polyOf p)) (ofList k d x))
+    value-rows n p x l m =
+        value-of (coefs d n p) x (coefs-length dh n p l) m ∙ ap (λ us. toList (eval (GR d k) us (ofList k d x))) (poly-coefs n p)
+
+    pub value-length : (n : ℕ) (p : Rows) (x : Element) → All (λ r. length r ≡ 6) p → length x ≡ d → length (value k d (coefs d n p) x) ≡ d
+    value-length n p x l m = ap length (value-rows n p x l m) ∙ length-toList (eval (GR d k) (take n (polyOf p)) (ofList k d x))
+
+    -- of all rows, if the coefficients beyond are zero
+    pub value-low : (n : ℕ) (p : Rows) (x : Element) → All (λ r. length r ≡ 6) p → length x ≡ d → Low (GR d k) n (polyOf p)
+        → value k d (coefs d n p) x ≡ toList (eval (GR d k) (polyOf p) (ofList k d x))
+    value-low n p x l m h =
+        value-rows n p x l m ∙ ap toList (eval-same (GR d k) (take n (polyOf p)) (polyOf p) (ofList k d x) (same-take (GR d k) n (polyOf p) h))
+
+    -- c p - e q
+    module _ (n : ℕ) (c : Element) (p : Rows) (e : Element) (q : Rows) (lc : length c ≡ d) (le : length e ≡ d) (xp : Exact p) (xq : Exact q) where
+      abbrev mixOf : E → E → E
+      mixOf b a = ofList k d c ⊗ a ⊕ ⊖ (ofList k d e ⊗ b)
+
+      mixed-row : (b a : E) → mixed k d c e (row b) (row a) ≡ row (mixOf b a)
+      mixed-row b a =
+          ap₂ (λ u v. held d (difference k (product k (lower d) c u) (product k (lower d) e v))) (take-row a) (take-row b)
+          ∙ ap₂ (λ u v. held d (difference k u v)) (product-row c a lc) (product-row e b le)
+          ∙ ap (held d) (difference-to k (ofList k d c ⊗ a) (ofList k d e ⊗ b))
+
+      mix-rows : mixRows k d n c p e q ≡ map row (change mixOf n (polyOf q) (polyOf p))
+      mix-rows = ap₂ (change (mixed k d c e) n) (sym xq) (sym xp) ∙ change-map row mixOf (mixed k d c e) mixed-row n (polyOf q) (polyOf p)
+
+      pub mix-exact : Exact (mixRows k d n c p e q)
+      mix-exact = exact-by (mixRows k d n c p e q) (change mixOf n (polyOf q) (polyOf p)) mix-rows
+
+      pub mix-same : length p ≡ length q → Low (GR d k) n (polyOf p) → Low (GR d k) n (polyOf q) ⊎ (ofList k d e ≡ 𝟘)
+          → Same (GR d k) (polyOf (mixRows k d n c p e q)) (lin (GR d k) (ofList k d c) (polyOf p) (⊖ (ofList k d e)) (polyOf q))
+      mix-same l hp hq j =
+          ap (λ us. coef (GR d k) us j) (poly-by (mixRows k d n c p e q) (change mixOf n (polyOf q) (polyOf p)) mix-rows)
+          ∙ change-lin (GR d k) (ofList k d c) (ofList k d e) n (polyOf p) (polyOf q)
+          (length-map p (ofList k d) ∙ l ∙ sym (length-map q (ofList k d))) hp hq j
+
+    -- (Z - x) p
+    module _ (n : ℕ) (x : Element) (p : Rows) (lx : length x ≡ d) (xp : Exact p) where
+      abbrev rootOf : E → E → E
+      rootOf b a = b ⊕ ⊖ (ofList k d x ⊗ a)
+
+      less-row : (b a : E) → lessTimes k d x (row b) (row a) ≡ row (rootOf b a)
+      less-row b a =
+          ap₂ (λ u v. held d (difference k u (product k (lower d) x v))) (take-row b) (take-row a)
+          ∙ ap (λ v. held d (difference k (toList b) v)) (product-row x a lx)
+          ∙ ap (held d) (difference-to k b (ofList k d x ⊗ a))
+
+      root-rows : rootRows k d n x p ≡ map row (change rootOf n (𝟘 ∷ polyOf p) (polyOf p))
+      root-rows =
+          ap₂ (change (lessTimes k d x) n) (ap₂ _∷_ (sym (row-zero dh)) (sym xp)) (sym xp)
+          ∙ change-map row rootOf (lessTimes k d x) less-row n (𝟘 ∷ polyOf p) (polyOf p)
+
+      pub root-exact : Exact (rootRows k d n x p)
+      root-exact = exact-by (rootRows k d n x p) (change rootOf n (𝟘 ∷ polyOf p) (polyOf p)) root-rows
+
+      pub root-same : (m : ℕ) → m < n → n ≤ length p → Low (GR d k) m (polyOf p)
+          → Same (GR d k) (polyOf (rootRows k d n x p)) (mulx (GR d k) (ofList k d x) (polyOf p))
+      root-same m l h low j =
+          ap (λ us. coef (GR d k) us j) (poly-by (rootRows k d n x p) (change rootOf n (𝟘 ∷ polyOf p) (polyOf p)) root-rows)
+          ∙ change-mulx (GR d k) (ofList k d x) n m (polyOf p) l (rw (length-map p (ofList k d)) h) low j
