@@ -1,10 +1,11 @@
 -- Points as the bits of a number. Assumes nothing.
-use mathlib.Core.Path.{_≡_, refl, sym, ap, _∙_}
-use mathlib.Core.List.{List, [], _∷_, _++_}
+use mathlib.Core.Path.{_≡_, sym, ap, _∙_}
+use mathlib.Core.List.{_∷_, _++_}
 use Prim.Native.Nat.{ℕ, zero, suc, _+_, _-_, _*_, _/_, _%_, _^_, _≤_, _<_}
-use native.Mathlib.Nat.{not-suc-le-zero, le-of-suc-le-suc, le-of-eq, zero-add, div-one, div-div-eq-div-mul, div-lt-iff-lt-mul, pow-suc, pow-succ', suc-add}
+use native.Mathlib.Nat.{not-suc-le-zero, le-of-suc-le-suc, le-of-eq, zero-add, div-one}
+use native.Mathlib.Nat.{div-div-eq-div-mul, div-lt-iff-lt-mul, pow-suc, pow-succ', suc-add}
 use native.Mathlib.Omega.{arith}
-use lib.ListN.{length, getD, take, drop, replicate}
+use lib.ListN.{getD}
 use lib.Seq.{take-all}
 use Rattle.ring.specs.Element.{Element, zeroE, point, held}
 use Rattle.ring.proofs.Points.{length-point, point-zero}

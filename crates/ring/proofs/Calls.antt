@@ -1,6 +1,6 @@
 -- What the calls on lent elements have in common: what no fault tells, and what the output holds. Assumes nothing.
-use mathlib.Core.Path.{_≡_, refl, sym, ap, _∙_}
-use mathlib.Core.List.{List, [], _∷_, _++_, append-nil}
+use mathlib.Core.Path.{_≡_, refl, ap, _∙_}
+use mathlib.Core.List.{List, _++_, append-nil}
 use Prim.Native.Nat.{ℕ, zero, suc, _+_}
 use native.Mathlib.Nat.{zero-add, le-of-eq}
 use native.Mathlib.Omega.{arith}
@@ -9,7 +9,7 @@ use lib.ListN.{length, take, drop, drop-of-length-le}
 use borrow.Author.Tests.{eqb-true}
 use Rattle.words.specs.declared.Params.{Params}
 use Rattle.words.specs.Params.{paramsOk}
-use Rattle.words.specs.Refusal.{first, unless}
+use Rattle.words.specs.Refusal.{first}
 use Rattle.words.proofs.Refusal.{first-left, first-right, unless-held}
 use Rattle.words.proofs.InRange.{InRange, ok-range}
 use Rattle.ring.specs.Element.{Element, held}

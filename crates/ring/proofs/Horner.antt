@@ -1,7 +1,7 @@
 -- A product by Horner's rule, one word of the first factor a turn, over all six words of an array: what stands at d and above never comes down.
 -- Assumes nothing.
-use mathlib.Core.Path.{_≡_, refl, sym, ap, ap₂, _∙_}
-use mathlib.Core.List.{List, [], _∷_}
+use mathlib.Core.Path.{_≡_, refl, sym, ap, _∙_}
+use mathlib.Core.List.{_∷_}
 use Prim.Native.Nat.{ℕ, zero, suc, _-_, _≤_, _<_}
 use native.Mathlib.Nat.{not-suc-le-zero, le-of-eq}
 use native.Mathlib.Omega.{arith}
@@ -9,7 +9,6 @@ use lib.ListN.{length, getD, take, drop, drop-of-length-le}
 use lib.Seq.{drop-cons, getD-take, length-take-le}
 use Rattle.ring.specs.Element.{Element, zeroE, zip, downW, plusW, addScaled, timesX, product, held, lower}
 use Rattle.ring.proofs.Table.{length-lower}
-use Rattle.ring.proofs.Lists.{length-timesX, length-product}
 use Rattle.ring.proofs.Zip.{zip-take, zip-short, zip-six, zip-shifted}
 use Rattle.ring.proofs.Held.{held-take, to-six}
 
@@ -43,7 +42,8 @@ pub turn : (k d : ℕ) (r a b : Element) (i c : ℕ) → 2 ≤ d → d ≤ 6 →
     → take d (addScaled k c (zip (downW k (getD r (d - 1) 0)) (0 ∷ r) (held d (lower d))) b) ≡ product k (lower d) (drop (i - 1) a) (take d b)
 turn k d r a b i c h₂ h₆ hr p hi ec e =
     zip-take (plusW k c) d (zip (downW k (getD r (d - 1) 0)) (0 ∷ r) (held d (lower d))) b
-    ∙ ap (λ (x : Element). addScaled k c x (take d b)) (shift-take k d (lower d) r (length-lower d h₂ h₆) (omega arith) hr ∙ ap (timesX k (lower d)) e)
+    ∙ ap (λ (x : Element). addScaled k c x (take d b))
+    (shift-take k d (lower d) r (length-lower d h₂ h₆) (omega arith) hr ∙ ap (timesX k (lower d)) e)
     ∙ ap (λ (x : ℕ). addScaled k x (timesX k (lower d) (product k (lower d) (drop i a) (take d b))) (take d b)) ec
     ∙ sym (product-step k (lower d) a (take d b) i p hi)
 

@@ -1,6 +1,6 @@
 -- How an inverse is computed: by Fermat modulo two, then by Newton's step, which doubles the bits. Assumes nothing.
 use Prim.Native.Nat.{ℕ, zero, suc, _-_}
-use mathlib.Core.List.{List, [], _∷_}
+use mathlib.Core.List.{_∷_}
 use lib.ListN.{take, replicate}
 use Rattle.ring.specs.Element.{Element, lower, difference, product, oneE}
 

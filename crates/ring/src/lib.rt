@@ -29,6 +29,7 @@ pub fn lower_of(d: usize) -> [u64; 6]
     LOWER[d]
 }
 
+// The sum, word by word, of all six.
 pub fn sum(k: u64, a: [u64; 6], b: [u64; 6]) -> [u64; 6]
     requires { ⌜ (1 ≤ k) × (k ≤ 64) ⌝ }
     ensures { λ r. ⌜ r ≡ sum k a b ⌝ }
@@ -43,6 +44,7 @@ pub fn sum(k: u64, a: [u64; 6], b: [u64; 6]) -> [u64; 6]
     ]
 }
 
+// The difference, word by word, of all six.
 pub fn difference(k: u64, a: [u64; 6], b: [u64; 6]) -> [u64; 6]
     requires { ⌜ (1 ≤ k) × (k ≤ 64) ⌝ }
     ensures { λ r. ⌜ r ≡ difference k a b ⌝ }

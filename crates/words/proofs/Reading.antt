@@ -4,14 +4,14 @@ use mathlib.Core.Path.{_≡_, refl, sym, ap, _∙_}
 use mathlib.Core.Bool.{Bool, true, false, cond}
 use mathlib.Core.List.{List, [], _∷_}
 use Prim.Native.Nat.{ℕ, zero, suc, _+_, _-_, _*_, _/_, _%_, _^_, _≤_, _<_}
-use native.Mathlib.Nat.{mod-eq-of-lt, mod-lt, mod-mod, mod-add-div, add-mul-mod-self-left, zero-add, mul-one, pow-suc, not-suc-le-zero, div-eq-of-lt, lt-of-not-le, le-of-suc-le-suc}
+use native.Mathlib.Nat.{mod-eq-of-lt, mod-lt, mod-mod, mod-add-div, add-mul-mod-self-left, zero-add}
+use native.Mathlib.Nat.{mul-one, pow-suc, not-suc-le-zero, div-eq-of-lt, lt-of-not-le, le-of-suc-le-suc}
 use native.Mathlib.Omega.{arith}
 use borrow.Author.Tests.{lt-ltb, le-ltb, ltb-false}
-use lib.Dec.{ltb, leb, T, leb→le, ltb→lt}
+use lib.Dec.{ltb, leb, leb→le}
 use lib.Pow.{pow-pos}
 use lib.IntN.{ℤ, pos, negsuc, negℤ, natAbs, subℕ, _+ℤ_, _-ℤ_, +ℤ-assoc, +ℤ-comm, +ℤ-negℤ-cancel, -ℤ-+ℤ-cancel, pos-ne-negsuc}
 use lib.Signed.{_≤ℤ_, mag}
-use Rattle.words.specs.declared.Signed.{Signed}
 use Rattle.words.specs.Word.{subW, negW}
 use Rattle.words.specs.Signed.{meaning, signedOf, integer, sumOfMeanings, sumOf}
 

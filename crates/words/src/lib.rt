@@ -32,6 +32,12 @@ pub struct Params {
     pub t: usize,
 }
 
+// A word as sign and magnitude.
+pub struct Signed {
+    pub negative: bool,
+    pub magnitude: u64,
+}
+
 // 2 to the power d.
 fn two_to(d: usize) -> usize
     requires { ⌜ (2 ≤ d) × (d ≤ 6) ⌝ }
@@ -133,12 +139,6 @@ pub fn all_in_width(k: u64, s: &[u64]) -> bool
         i += 1;
     }
     true
-}
-
-// A word as sign and magnitude.
-pub struct Signed {
-    pub negative: bool,
-    pub magnitude: u64,
 }
 
 // The signed reading of a word: its top bit is the sign.

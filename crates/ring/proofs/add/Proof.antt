@@ -1,3 +1,4 @@
+-- `ring::add` meets its contract: a fault leaves the output, and otherwise the sum is stored. Assumes nothing.
 use native.Mathlib.Omega.{arith}
 use mathlib.Core.Path.{_≡_, sym, _∙_}
 use lib.ListN.{length}
@@ -12,12 +13,6 @@ use Rattle.ring.proofs.Held.{sum-held}
 use borrow.Author.Needs.{needs}
 use Rattle.ring.proofs.add.Statement.{statement}
 use Rattle.ring.proofs.add.Tie as tie
-use Rattle.ring.proofs.add.Reads as reads
-use Rattle.ring.proofs.add.Lts as lts
-use Rattle.ring.proofs.load.Reads as load-reads
-use Rattle.ring.proofs.operands_fault.Reads as operands-fault-reads
-use Rattle.ring.proofs.store.Reads as store-reads
-use Rattle.ring.proofs.sum.Reads as sum-reads
 
 -- the function's entry, the fault of the call, and what is known where there is none
 abbrev S : tie.Else1 → tie.Start
@@ -32,38 +27,30 @@ no-fault c = sym (c .before .operands-fault .ensures) ∙ c .if1 .left
 known : (c : tie.Else1) → let s = S c in Clear (s .args .p) (s .args .a .now) (s .args .b .now) (length (s .args .out .now))
 known c = let s = S c in clear (s .args .p) (s .args .a .now) (s .args .b .now) (length (s .args .out .now)) (no-fault c)
 
--- src/lib.rt:315:9
 operands-fault-requires : tie.Need-operands-fault-requires
 operands-fault-requires c κs = search needs
 
--- src/lib.rt:317:9
 returns : tie.Need-returns
 returns c =
     let s = c .before .before .before .before .before in
     let e = c .before .operands-fault .ensures in
     (e, sym (kept-some (F s) (s .args .out .now) (sum (s .args .p .k) (s .args .a .now) (s .args .b .now)) (λ z. c .if1 .taken (e ∙ z))))
 
--- src/lib.rt:319:9
 load-requires : tie.Need-load-requires
 load-requires c κs = let k = known c in (k .range .d-high, omega arith)
 
--- src/lib.rt:320:9
 load-requires-2 : tie.Need-load-requires-2
 load-requires-2 c κs = let k = known (c .before) in (k .range .d-high, omega arith)
 
--- src/lib.rt:321:24
 sum-requires : tie.Need-sum-requires
 sum-requires c κs = let k = known (c .before .before .before) in (k .range .k-low, k .range .k-high)
 
--- src/lib.rt:321:5
 store-requires : tie.Need-store-requires
 store-requires c κs = let k = known (c .before .before .before .before) in (k .range .d-high, omega arith)
 
--- src/lib.rt:308:1
 same-length : tie.Need-same-length
 same-length c = search needs
 
--- src/lib.rt:308:1
 returns-2 : tie.Need-returns-2
 returns-2 c =
     let e = c .before .before .before .before .before .before .before in
@@ -78,7 +65,8 @@ returns-2 c =
     ∙ rw (c .before .before .before .before .before .before .load .ensures, c .before .before .before .before .before .load2 .ensures)
     (sum-held (s .args .p .k) d x y (k .a-length) (k .b-length) (k .range .d-high)) in
     let hw : length w ≡ d = length-zip (addW (s .args .p .k)) x y (k .a-length ∙ sym (k .b-length)) ∙ k .b-length in
-    (sym (no-fault e), c .before .before .store .ensures ∙ stored d (s .args .out .now) _ w (k .out-length) v hw ∙ sym (kept-none (F s) (s .args .out .now) w (no-fault e)))
+    let z = c .before .before .store .ensures ∙ stored d (s .args .out .now) _ w (k .out-length) v hw in
+    (sym (no-fault e), z ∙ sym (kept-none (F s) (s .args .out .now) w (no-fault e)))
 
 pub add-spec : {M : Type 1} → statement M
 add-spec =

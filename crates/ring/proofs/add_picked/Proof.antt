@@ -1,3 +1,4 @@
+-- `ring::add_picked` meets its contract: six sums with a pick. Assumes nothing.
 use native.Mathlib.Omega.{arith}
 use mathlib.Core.Path.{_≡_, sym}
 use lib.ListN.{length}
@@ -6,83 +7,61 @@ use Rattle.ring.proofs.Zip.{zip-six}
 use borrow.Author.Needs.{needs}
 use Rattle.ring.proofs.add_picked.Statement.{statement}
 use Rattle.ring.proofs.add_picked.Tie as tie
-use Rattle.ring.proofs.add_picked.Reads as reads
-use Rattle.ring.proofs.add_picked.Lts as lts
-use Rattle.ring.proofs.plus_picked.Reads as plus-picked-reads
 
--- src/lib.rt:162:27
 array-read-plus-picked : tie.Need-array-read-plus-picked
 array-read-plus-picked c = search needs
 
--- src/lib.rt:162:33
 array-read-plus-picked-2 : tie.Need-array-read-plus-picked-2
 array-read-plus-picked-2 c = search needs
 
--- src/lib.rt:162:9
 plus-picked-requires : tie.Need-plus-picked-requires
 plus-picked-requires c κs = search needs
 
--- src/lib.rt:163:27
 array-read-plus-picked-3 : tie.Need-array-read-plus-picked-3
 array-read-plus-picked-3 c = search needs
 
--- src/lib.rt:163:33
 array-read-plus-picked-4 : tie.Need-array-read-plus-picked-4
 array-read-plus-picked-4 c = search needs
 
--- src/lib.rt:163:9
 plus-picked-requires-2 : tie.Need-plus-picked-requires-2
 plus-picked-requires-2 c κs = search needs
 
--- src/lib.rt:164:27
 array-read-plus-picked-5 : tie.Need-array-read-plus-picked-5
 array-read-plus-picked-5 c = search needs
 
--- src/lib.rt:164:33
 array-read-plus-picked-6 : tie.Need-array-read-plus-picked-6
 array-read-plus-picked-6 c = search needs
 
--- src/lib.rt:164:9
 plus-picked-requires-3 : tie.Need-plus-picked-requires-3
 plus-picked-requires-3 c κs = search needs
 
--- src/lib.rt:165:27
 array-read-plus-picked-7 : tie.Need-array-read-plus-picked-7
 array-read-plus-picked-7 c = search needs
 
--- src/lib.rt:165:33
 array-read-plus-picked-8 : tie.Need-array-read-plus-picked-8
 array-read-plus-picked-8 c = search needs
 
--- src/lib.rt:165:9
 plus-picked-requires-4 : tie.Need-plus-picked-requires-4
 plus-picked-requires-4 c κs = search needs
 
--- src/lib.rt:166:27
 array-read-plus-picked-9 : tie.Need-array-read-plus-picked-9
 array-read-plus-picked-9 c = search needs
 
--- src/lib.rt:166:33
 array-read-plus-picked-10 : tie.Need-array-read-plus-picked-10
 array-read-plus-picked-10 c = search needs
 
--- src/lib.rt:166:9
 plus-picked-requires-5 : tie.Need-plus-picked-requires-5
 plus-picked-requires-5 c κs = search needs
 
--- src/lib.rt:167:27
 array-read-plus-picked-11 : tie.Need-array-read-plus-picked-11
 array-read-plus-picked-11 c = search needs
 
--- src/lib.rt:167:33
 array-read-plus-picked-12 : tie.Need-array-read-plus-picked-12
 array-read-plus-picked-12 c = search needs
 
--- src/lib.rt:167:9
 plus-picked-requires-6 : tie.Need-plus-picked-requires-6
 plus-picked-requires-6 c κs = search needs
 
--- src/lib.rt:157:1
 returns : tie.Need-returns
 returns c =
     let s = c .before .before .before .before .before .before in

@@ -1,3 +1,4 @@
+-- `ring::add_scaled` meets its contract: six sums with a multiple. Assumes nothing.
 use native.Mathlib.Omega.{arith}
 use mathlib.Core.Path.{_≡_, sym}
 use lib.ListN.{length}
@@ -6,83 +7,61 @@ use Rattle.ring.proofs.Zip.{zip-six}
 use borrow.Author.Needs.{needs}
 use Rattle.ring.proofs.add_scaled.Statement.{statement}
 use Rattle.ring.proofs.add_scaled.Tie as tie
-use Rattle.ring.proofs.add_scaled.Reads as reads
-use Rattle.ring.proofs.add_scaled.Lts as lts
-use Rattle.ring.proofs.plus.Reads as plus-reads
 
--- src/lib.rt:147:20
 array-read-plus : tie.Need-array-read-plus
 array-read-plus c = search needs
 
--- src/lib.rt:147:26
 array-read-plus-2 : tie.Need-array-read-plus-2
 array-read-plus-2 c = search needs
 
--- src/lib.rt:147:9
 plus-requires : tie.Need-plus-requires
 plus-requires c κs = search needs
 
--- src/lib.rt:148:20
 array-read-plus-3 : tie.Need-array-read-plus-3
 array-read-plus-3 c = search needs
 
--- src/lib.rt:148:26
 array-read-plus-4 : tie.Need-array-read-plus-4
 array-read-plus-4 c = search needs
 
--- src/lib.rt:148:9
 plus-requires-2 : tie.Need-plus-requires-2
 plus-requires-2 c κs = search needs
 
--- src/lib.rt:149:20
 array-read-plus-5 : tie.Need-array-read-plus-5
 array-read-plus-5 c = search needs
 
--- src/lib.rt:149:26
 array-read-plus-6 : tie.Need-array-read-plus-6
 array-read-plus-6 c = search needs
 
--- src/lib.rt:149:9
 plus-requires-3 : tie.Need-plus-requires-3
 plus-requires-3 c κs = search needs
 
--- src/lib.rt:150:20
 array-read-plus-7 : tie.Need-array-read-plus-7
 array-read-plus-7 c = search needs
 
--- src/lib.rt:150:26
 array-read-plus-8 : tie.Need-array-read-plus-8
 array-read-plus-8 c = search needs
 
--- src/lib.rt:150:9
 plus-requires-4 : tie.Need-plus-requires-4
 plus-requires-4 c κs = search needs
 
--- src/lib.rt:151:20
 array-read-plus-9 : tie.Need-array-read-plus-9
 array-read-plus-9 c = search needs
 
--- src/lib.rt:151:26
 array-read-plus-10 : tie.Need-array-read-plus-10
 array-read-plus-10 c = search needs
 
--- src/lib.rt:151:9
 plus-requires-5 : tie.Need-plus-requires-5
 plus-requires-5 c κs = search needs
 
--- src/lib.rt:152:20
 array-read-plus-11 : tie.Need-array-read-plus-11
 array-read-plus-11 c = search needs
 
--- src/lib.rt:152:26
 array-read-plus-12 : tie.Need-array-read-plus-12
 array-read-plus-12 c = search needs
 
--- src/lib.rt:152:9
 plus-requires-6 : tie.Need-plus-requires-6
 plus-requires-6 c κs = search needs
 
--- src/lib.rt:142:1
 returns : tie.Need-returns
 returns c =
     let s = c .before .before .before .before .before .before in

@@ -1,3 +1,4 @@
+-- `ring::difference` meets its contract: six differences are the difference word by word. Assumes nothing.
 use native.Mathlib.Omega.{arith}
 use mathlib.Core.Path.{_≡_, sym}
 use lib.ListN.{length}
@@ -6,83 +7,61 @@ use Rattle.ring.proofs.Zip.{zip-six}
 use borrow.Author.Needs.{needs}
 use Rattle.ring.proofs.difference.Statement.{statement}
 use Rattle.ring.proofs.difference.Tie as tie
-use Rattle.ring.proofs.difference.Reads as reads
-use Rattle.ring.proofs.difference.Lts as lts
-use Rattle.words.proofs.sub.Reads as sub-reads
 
--- src/lib.rt:46:23
 array-read-sub : tie.Need-array-read-sub
 array-read-sub c = search needs
 
--- src/lib.rt:46:29
 array-read-sub-2 : tie.Need-array-read-sub-2
 array-read-sub-2 c = search needs
 
--- src/lib.rt:46:9
 sub-requires : tie.Need-sub-requires
 sub-requires c κs = search needs
 
--- src/lib.rt:47:23
 array-read-sub-3 : tie.Need-array-read-sub-3
 array-read-sub-3 c = search needs
 
--- src/lib.rt:47:29
 array-read-sub-4 : tie.Need-array-read-sub-4
 array-read-sub-4 c = search needs
 
--- src/lib.rt:47:9
 sub-requires-2 : tie.Need-sub-requires-2
 sub-requires-2 c κs = search needs
 
--- src/lib.rt:48:23
 array-read-sub-5 : tie.Need-array-read-sub-5
 array-read-sub-5 c = search needs
 
--- src/lib.rt:48:29
 array-read-sub-6 : tie.Need-array-read-sub-6
 array-read-sub-6 c = search needs
 
--- src/lib.rt:48:9
 sub-requires-3 : tie.Need-sub-requires-3
 sub-requires-3 c κs = search needs
 
--- src/lib.rt:49:23
 array-read-sub-7 : tie.Need-array-read-sub-7
 array-read-sub-7 c = search needs
 
--- src/lib.rt:49:29
 array-read-sub-8 : tie.Need-array-read-sub-8
 array-read-sub-8 c = search needs
 
--- src/lib.rt:49:9
 sub-requires-4 : tie.Need-sub-requires-4
 sub-requires-4 c κs = search needs
 
--- src/lib.rt:50:23
 array-read-sub-9 : tie.Need-array-read-sub-9
 array-read-sub-9 c = search needs
 
--- src/lib.rt:50:29
 array-read-sub-10 : tie.Need-array-read-sub-10
 array-read-sub-10 c = search needs
 
--- src/lib.rt:50:9
 sub-requires-5 : tie.Need-sub-requires-5
 sub-requires-5 c κs = search needs
 
--- src/lib.rt:51:23
 array-read-sub-11 : tie.Need-array-read-sub-11
 array-read-sub-11 c = search needs
 
--- src/lib.rt:51:29
 array-read-sub-12 : tie.Need-array-read-sub-12
 array-read-sub-12 c = search needs
 
--- src/lib.rt:51:9
 sub-requires-6 : tie.Need-sub-requires-6
 sub-requires-6 c κs = search needs
 
--- src/lib.rt:41:1
 returns : tie.Need-returns
 returns c =
     let s = c .before .before .before .before .before .before in

@@ -1,10 +1,11 @@
+-- `ring::fermat` meets its contract: a turn of the loop is a product and a square. Assumes nothing.
 use borrow.Author.Needs.{needs}
 use native.Mathlib.Omega.{arith}
-use mathlib.Core.Path.{_≡_, refl, sym, ap, _∙_}
-use Prim.Native.Nat.{ℕ, suc, _+_, _-_, _≤_, _<_}
+use mathlib.Core.Path.{_≡_, sym, ap, _∙_}
+use Prim.Native.Nat.{suc, _+_, _-_, _≤_}
 use lib.ListN.{length, take}
 use lib.Seq.{length-take-le}
-use Rattle.ring.specs.Element.{Element, product, lower, held, oneE}
+use Rattle.ring.specs.Element.{product, lower, held}
 use Rattle.ring.specs.Inversion.{fermat}
 use Rattle.ring.proofs.Table.{length-lower}
 use Rattle.ring.proofs.Lists.{length-product}
@@ -12,9 +13,6 @@ use Rattle.ring.proofs.Field.{length-fermat}
 use Rattle.ring.proofs.Held.{held-take, const-held}
 use Rattle.ring.proofs.fermat.Statement.{statement}
 use Rattle.ring.proofs.fermat.Tie as tie
-use Rattle.ring.proofs.fermat.Reads as reads
-use Rattle.ring.proofs.fermat.Lts as lts
-use Rattle.ring.proofs.product.Reads as product-reads
 
 abbrev Inv-loop : tie.InvT-loop
 Inv-loop d low a y₀ i₀ y i = (1 ≤ i) × (i ≤ d) × (y ≡ held d (fermat d (take d a) (i - 1)))
@@ -22,28 +20,22 @@ Inv-loop d low a y₀ i₀ y i = (1 ≤ i) × (i ≤ d) × (y ≡ held d (fermat
 abbrev μ-loop : tie.MeasureT-loop
 μ-loop d low a y₀ i₀ y i = d - i
 
--- src/lib.rt:223:5
 loop-holds : tie.Need-loop-holds Inv-loop μ-loop
 unfolding fermat
 loop-holds c = (search needs, search needs, sym (const-held 1 (c .args .d) (omega arith) (omega arith)))
 
--- src/lib.rt:224:13
 product-requires : tie.Need-product-requires Inv-loop μ-loop
 product-requires c κs = search needs
 
--- src/lib.rt:225:9
 product-requires-2 : tie.Need-product-requires-2 Inv-loop μ-loop
 product-requires-2 c κs = search needs
 
--- src/lib.rt:226:9
 add-i : tie.Need-add-i Inv-loop μ-loop
 add-i c = search needs
 
--- src/lib.rt:223:5
 loop-less : tie.Need-loop-less Inv-loop μ-loop
 loop-less c = search needs
 
--- src/lib.rt:223:5
 loop-again : tie.Need-loop-again Inv-loop μ-loop
 unfolding fermat
 loop-again c =
@@ -64,7 +56,6 @@ loop-again c =
     let en : i + 1 - 1 ≡ suc (i - 1) = omega arith in
     (omega arith, omega arith, c .product2 .ensures ∙ rw (ez, en))
 
--- src/lib.rt:217:1
 returns : tie.Need-returns Inv-loop μ-loop
 returns c =
     let l = c .before in

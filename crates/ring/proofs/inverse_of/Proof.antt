@@ -1,21 +1,18 @@
+-- `ring::inverse_of` meets its contract: six steps after the chain of squares. Assumes nothing.
 use borrow.Author.Needs.{needs}
 use native.Mathlib.Omega.{arith}
-use mathlib.Core.Path.{_≡_, refl, sym, ap, _∙_}
-use Prim.Native.Nat.{ℕ, suc, _+_, _-_, _≤_, _<_}
+use mathlib.Core.Path.{_≡_, ap, _∙_}
+use Prim.Native.Nat.{_-_, _≤_}
 use native.Mathlib.Numerals.{add-one}
 use lib.ListN.{length, take}
 use lib.Seq.{length-take-le}
-use Rattle.ring.specs.Element.{held, inverse}
-use Rattle.ring.specs.Inversion.{fermat, newton, newtons}
+use Rattle.ring.specs.Element.{held}
+use Rattle.ring.specs.Inversion.{fermat, newtons}
 use Rattle.ring.proofs.Field.{length-fermat}
 use Rattle.ring.proofs.Inverse.{length-newtons, inverse-computed}
 use Rattle.ring.proofs.Held.{held-take}
 use Rattle.ring.proofs.inverse_of.Statement.{statement}
 use Rattle.ring.proofs.inverse_of.Tie as tie
-use Rattle.ring.proofs.inverse_of.Reads as reads
-use Rattle.ring.proofs.inverse_of.Lts as lts
-use Rattle.ring.proofs.fermat.Reads as fermat-reads
-use Rattle.ring.proofs.newton.Reads as newton-reads
 
 abbrev Inv-loop : tie.InvT-loop
 Inv-loop k d low a y₀ i₀ y i = (i ≤ 6) × (y ≡ held d (newtons k d (take d a) (fermat d (take d a) (d - 1)) i))
@@ -23,28 +20,22 @@ Inv-loop k d low a y₀ i₀ y i = (i ≤ 6) × (y ≡ held d (newtons k d (take
 abbrev μ-loop : tie.MeasureT-loop
 μ-loop k d low a y₀ i₀ y i = 6 - i
 
--- src/lib.rt:246:9
 fermat-requires : tie.Need-fermat-requires Inv-loop μ-loop
 fermat-requires c κs = search needs
 
--- src/lib.rt:248:5
 loop-holds : tie.Need-loop-holds Inv-loop μ-loop
 unfolding newtons
 loop-holds c = (search needs, c .fermat .ensures)
 
--- src/lib.rt:249:13
 newton-requires : tie.Need-newton-requires Inv-loop μ-loop
 newton-requires c κs = search needs
 
--- src/lib.rt:251:9
 add-i : tie.Need-add-i Inv-loop μ-loop
 add-i c = search needs
 
--- src/lib.rt:248:5
 loop-less : tie.Need-loop-less Inv-loop μ-loop
 loop-less c = search needs
 
--- src/lib.rt:248:5
 loop-again : tie.Need-loop-again Inv-loop μ-loop
 unfolding newtons
 loop-again c =
@@ -62,7 +53,6 @@ loop-again c =
     ap (take d) (l .loop .inv .1) ∙ held-take d (newtons k d a y i) (length-newtons d (omega arith) (omega arith) k a y ha hy i) in
     (omega arith, c .newton .ensures ∙ rw (e, add-one))
 
--- src/lib.rt:242:1
 returns : tie.Need-returns Inv-loop μ-loop
 returns c =
     let l = c .before in

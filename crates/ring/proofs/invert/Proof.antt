@@ -1,3 +1,4 @@
+-- `ring::invert` meets its contract: a fault leaves the output, and otherwise the inverse is stored. Assumes nothing.
 use native.Mathlib.Omega.{arith}
 use mathlib.Core.Path.{_≡_, sym, _∙_}
 use Prim.Native.Nat.{ℕ}
@@ -11,13 +12,6 @@ use Rattle.ring.proofs.Calls.{Clear, clear, one-operand, stored}
 use borrow.Author.Needs.{needs}
 use Rattle.ring.proofs.invert.Statement.{statement}
 use Rattle.ring.proofs.invert.Tie as tie
-use Rattle.ring.proofs.invert.Reads as reads
-use Rattle.ring.proofs.invert.Lts as lts
-use Rattle.ring.proofs.inverse_of.Reads as inverse-of-reads
-use Rattle.ring.proofs.load.Reads as load-reads
-use Rattle.ring.proofs.lower_of.Reads as lower-of-reads
-use Rattle.ring.proofs.operands_fault.Reads as operands-fault-reads
-use Rattle.ring.proofs.store.Reads as store-reads
 
 -- the function's entry, the fault of the call, and what is known where there is none
 abbrev S : tie.Else1 → tie.Start
@@ -36,40 +30,32 @@ known c =
     let s = S c in
     clear (s .args .p) (s .args .a .now) (s .args .a .now) (length (s .args .out .now)) (sym (c .before .operands-fault .ensures) ∙ c .if1 .left)
 
--- src/lib.rt:351:9
 operands-fault-requires : tie.Need-operands-fault-requires
 operands-fault-requires c κs = search needs
 
--- src/lib.rt:353:9
 returns : tie.Need-returns
 returns c =
     let s = c .before .before .before .before in
     let e = c .before .operands-fault .ensures ∙ one-operand (s .args .p) (s .args .a .now) (length (s .args .out .now)) in
     (e, sym (kept-some (F s) (s .args .out .now) (inverse (s .args .p .k) (s .args .p .d) (s .args .a .now)) (λ z. c .if1 .taken (e ∙ z))))
 
--- src/lib.rt:355:9
 load-requires : tie.Need-load-requires
 load-requires c κs = let k = known c in (k .range .d-high, omega arith)
 
--- src/lib.rt:356:45
 lower-of-requires : tie.Need-lower-of-requires
 lower-of-requires c κs = let k = known (c .before .before) in (k .range .d-low, k .range .d-high)
 
--- src/lib.rt:356:24
 inverse-of-requires : tie.Need-inverse-of-requires
 inverse-of-requires c κs =
     let k = known (c .before .before .before) in
     ((k .range .k-low, k .range .k-high), (k .range .d-low, k .range .d-high), c .lower-of .ensures)
 
--- src/lib.rt:356:5
 store-requires : tie.Need-store-requires
 store-requires c κs = let k = known (c .before .before .before .before) in (k .range .d-high, omega arith)
 
--- src/lib.rt:344:1
 same-length : tie.Need-same-length
 same-length c = search needs
 
--- src/lib.rt:344:1
 returns-2 : tie.Need-returns-2
 returns-2 c =
     let e = c .before .before .before .before .before .before .before in

@@ -1,3 +1,4 @@
+-- `ring::keep` meets its contract: six words, each there where its place is below d. Assumes nothing.
 use native.Mathlib.Omega.{arith}
 use mathlib.Core.Path.{_≡_, sym}
 use lib.ListN.{length}
@@ -5,59 +6,43 @@ use Rattle.ring.proofs.Held.{held-six}
 use borrow.Author.Needs.{needs}
 use Rattle.ring.proofs.keep.Statement.{statement}
 use Rattle.ring.proofs.keep.Tie as tie
-use Rattle.ring.proofs.keep.Reads as reads
-use Rattle.ring.proofs.keep.Lts as lts
-use Rattle.ring.proofs.below.Reads as below-reads
 
--- src/lib.rt:108:21
 array-read-below : tie.Need-array-read-below
 array-read-below c = search needs
 
--- src/lib.rt:108:9
 below-requires : tie.Need-below-requires
 below-requires c κs = search needs
 
--- src/lib.rt:109:21
 array-read-below-2 : tie.Need-array-read-below-2
 array-read-below-2 c = search needs
 
--- src/lib.rt:109:9
 below-requires-2 : tie.Need-below-requires-2
 below-requires-2 c κs = search needs
 
--- src/lib.rt:110:21
 array-read-below-3 : tie.Need-array-read-below-3
 array-read-below-3 c = search needs
 
--- src/lib.rt:110:9
 below-requires-3 : tie.Need-below-requires-3
 below-requires-3 c κs = search needs
 
--- src/lib.rt:111:21
 array-read-below-4 : tie.Need-array-read-below-4
 array-read-below-4 c = search needs
 
--- src/lib.rt:111:9
 below-requires-4 : tie.Need-below-requires-4
 below-requires-4 c κs = search needs
 
--- src/lib.rt:112:21
 array-read-below-5 : tie.Need-array-read-below-5
 array-read-below-5 c = search needs
 
--- src/lib.rt:112:9
 below-requires-5 : tie.Need-below-requires-5
 below-requires-5 c κs = search needs
 
--- src/lib.rt:113:21
 array-read-below-6 : tie.Need-array-read-below-6
 array-read-below-6 c = search needs
 
--- src/lib.rt:113:9
 below-requires-6 : tie.Need-below-requires-6
 below-requires-6 c κs = search needs
 
--- src/lib.rt:103:1
 returns : tie.Need-returns
 returns c =
     let s = c .before .before .before .before .before .before in

@@ -1,15 +1,14 @@
+-- `ring::load` meets its contract: the words copied so far. Assumes nothing.
 use borrow.Author.Needs.{needs}
 use native.Mathlib.Omega.{arith}
 use mathlib.Core.Path.{_≡_, refl, sym, _∙_}
-use Prim.Native.Nat.{_+_, _-_, _≤_, _<_}
+use Prim.Native.Nat.{_-_, _≤_}
 use native.Mathlib.Nat.{zero-add}
-use lib.ListN.{length, drop, getD, length-drop}
+use lib.ListN.{length, drop, length-drop}
 use lib.Seq.{paste, getD-drop}
 use Rattle.words.proofs.Fill.{fill-next}
 use Rattle.ring.proofs.load.Statement.{statement}
 use Rattle.ring.proofs.load.Tie as tie
-use Rattle.ring.proofs.load.Reads as reads
-use Rattle.ring.proofs.load.Lts as lts
 
 abbrev Inv-loop : tie.InvT-loop
 Inv-loop d s at r₀ j₀ r j = (j ≤ d) × (r ≡ paste r₀ 0 (drop at s) j)
@@ -17,39 +16,30 @@ Inv-loop d s at r₀ j₀ r j = (j ≤ d) × (r ≡ paste r₀ 0 (drop at s) j)
 abbrev μ-loop : tie.MeasureT-loop
 μ-loop d s at r₀ j₀ r j = d - j
 
--- src/lib.rt:204:5
 loop-holds : tie.Need-loop-holds Inv-loop μ-loop
 loop-holds c = (search needs, refl)
 
--- src/lib.rt:205:18
 add-r : tie.Need-add-r Inv-loop μ-loop
 add-r c = search needs
 
--- src/lib.rt:205:16
 mul-r : tie.Need-mul-r Inv-loop μ-loop
 mul-r c = search needs
 
--- src/lib.rt:205:16
 shared-slice-read-r : tie.Need-shared-slice-read-r Inv-loop μ-loop
 shared-slice-read-r c = search needs
 
--- src/lib.rt:205:9
 mul-r-2 : tie.Need-mul-r-2 Inv-loop μ-loop
 mul-r-2 c = search needs
 
--- src/lib.rt:205:9
 array-write-r : tie.Need-array-write-r Inv-loop μ-loop
 array-write-r c = search needs
 
--- src/lib.rt:206:9
 add-j : tie.Need-add-j Inv-loop μ-loop
 add-j c = search needs
 
--- src/lib.rt:204:5
 loop-less : tie.Need-loop-less Inv-loop μ-loop
 loop-less c = search needs
 
--- src/lib.rt:204:5
 loop-again : tie.Need-loop-again Inv-loop μ-loop
 loop-again c =
     let l = c .before .before in
@@ -60,7 +50,6 @@ loop-again c =
           (sym (getD-drop (s .args .at) (s .args .s .now) (l .loop .j) 0)),
     )
 
--- src/lib.rt:198:1
 returns : tie.Need-returns Inv-loop μ-loop
 returns c =
     let l = c .before in

@@ -1,3 +1,4 @@
+-- `ring::lower_of` meets its contract: row by row. Assumes nothing.
 use mathlib.Core.Path.{_≡_, refl}
 use mathlib.Core.List.{List, [], _∷_}
 use Prim.Native.Nat.{ℕ, _≤_}
@@ -8,14 +9,10 @@ use borrow.Author.Needs.{needs}
 use native.Mathlib.Omega.{arith}
 use Rattle.ring.proofs.lower_of.Statement.{statement}
 use Rattle.ring.proofs.lower_of.Tie as tie
-use Rattle.ring.proofs.lower_of.Reads as reads
-use Rattle.ring.proofs.lower_of.Lts as lts
 
--- src/lib.rt:24:5
 mul-result : tie.Need-mul-result
 mul-result c = search needs
 
--- src/lib.rt:24:5
 array-copy-out-result : tie.Need-array-copy-out-result
 array-copy-out-result c = search needs
 
@@ -33,7 +30,10 @@ table =
 
 returns : tie.Need-returns
 unfolding lower
-returns c = to-six (λ n. 2 ≤ n → getD table n [] ≡ held n (lower n)) (λ _. refl) (λ z. absurd (omega arith)) (λ _. refl) (λ _. refl) (λ _. refl) (λ _. refl) (λ _. refl) (c .before .args .d) (c .before .pre .1) (c .before .pre .0)
+returns c =
+    to-six (λ n. 2 ≤ n → getD table n [] ≡ held n (lower n))
+    (λ _. refl) (λ z. absurd (omega arith)) (λ _. refl) (λ _. refl) (λ _. refl) (λ _. refl) (λ _. refl)
+    (c .before .args .d) (c .before .pre .1) (c .before .pre .0)
 
 pub lower-of-spec : {M : Type 1} → statement M
 lower-of-spec = tie.close (tie.spec mul-result array-copy-out-result returns)

@@ -1,3 +1,4 @@
+-- `ring::multiply` meets its contract: a fault leaves the output, and otherwise the product is stored. Assumes nothing.
 use native.Mathlib.Omega.{arith}
 use mathlib.Core.Path.{_≡_, sym, _∙_}
 use lib.ListN.{length}
@@ -5,7 +6,6 @@ use Rattle.words.proofs.Refusal.{kept-none, kept-some}
 use Rattle.ring.proofs.Calls.{Clear, clear, stored}
 use Prim.Native.Nat.{ℕ}
 use Rattle.ring.specs.Calls.{operandsFault}
-use lib.ListN.{take}
 use Rattle.ring.specs.Element.{product, lower, held}
 use Rattle.ring.proofs.Table.{length-lower}
 use Rattle.ring.proofs.Lists.{length-product}
@@ -13,13 +13,6 @@ use Rattle.ring.proofs.Held.{held-take}
 use borrow.Author.Needs.{needs}
 use Rattle.ring.proofs.multiply.Statement.{statement}
 use Rattle.ring.proofs.multiply.Tie as tie
-use Rattle.ring.proofs.multiply.Reads as reads
-use Rattle.ring.proofs.multiply.Lts as lts
-use Rattle.ring.proofs.load.Reads as load-reads
-use Rattle.ring.proofs.lower_of.Reads as lower-of-reads
-use Rattle.ring.proofs.operands_fault.Reads as operands-fault-reads
-use Rattle.ring.proofs.product.Reads as product-reads
-use Rattle.ring.proofs.store.Reads as store-reads
 
 -- the function's entry, the fault of the call, and what is known where there is none
 abbrev S : tie.Else1 → tie.Start
@@ -34,44 +27,36 @@ no-fault c = sym (c .before .operands-fault .ensures) ∙ c .if1 .left
 known : (c : tie.Else1) → let s = S c in Clear (s .args .p) (s .args .a .now) (s .args .b .now) (length (s .args .out .now))
 known c = let s = S c in clear (s .args .p) (s .args .a .now) (s .args .b .now) (length (s .args .out .now)) (no-fault c)
 
--- src/lib.rt:333:9
 operands-fault-requires : tie.Need-operands-fault-requires
 operands-fault-requires c κs = search needs
 
--- src/lib.rt:335:9
 returns : tie.Need-returns
 returns c =
     let s = c .before .before .before .before .before in
     let e = c .before .operands-fault .ensures in
-    (e, sym (kept-some (F s) (s .args .out .now) (product (s .args .p .k) (lower (s .args .p .d)) (s .args .a .now) (s .args .b .now)) (λ z. c .if1 .taken (e ∙ z))))
+    let w = product (s .args .p .k) (lower (s .args .p .d)) (s .args .a .now) (s .args .b .now) in
+    (e, sym (kept-some (F s) (s .args .out .now) w (λ z. c .if1 .taken (e ∙ z))))
 
--- src/lib.rt:337:9
 load-requires : tie.Need-load-requires
 load-requires c κs = let k = known c in (k .range .d-high, omega arith)
 
--- src/lib.rt:338:9
 load-requires-2 : tie.Need-load-requires-2
 load-requires-2 c κs = let k = known (c .before) in (k .range .d-high, omega arith)
 
--- src/lib.rt:339:42
 lower-of-requires : tie.Need-lower-of-requires
 lower-of-requires c κs = let k = known (c .before .before .before) in (k .range .d-low, k .range .d-high)
 
--- src/lib.rt:339:24
 product-requires : tie.Need-product-requires
 product-requires c κs =
     let k = known (c .before .before .before .before) in
     ((k .range .k-low, k .range .k-high), (k .range .d-low, k .range .d-high), c .lower-of .ensures)
 
--- src/lib.rt:339:5
 store-requires : tie.Need-store-requires
 store-requires c κs = let k = known (c .before .before .before .before .before) in (k .range .d-high, omega arith)
 
--- src/lib.rt:326:1
 same-length : tie.Need-same-length
 same-length c = search needs
 
--- src/lib.rt:326:1
 returns-2 : tie.Need-returns-2
 returns-2 c =
     let e = c .before .before .before .before .before .before .before .before in
@@ -91,7 +76,8 @@ returns-2 c =
       held-take d y (k .b-length),
     ) in
     let hw : length w ≡ d = length-product (s .args .p .k) (lower d) x y (k .b-length ∙ sym hl) ∙ hl in
-    (sym (no-fault e), c .before .before .store .ensures ∙ stored d (s .args .out .now) _ w (k .out-length) v hw ∙ sym (kept-none (F s) (s .args .out .now) w (no-fault e)))
+    let z = c .before .before .store .ensures ∙ stored d (s .args .out .now) _ w (k .out-length) v hw in
+    (sym (no-fault e), z ∙ sym (kept-none (F s) (s .args .out .now) w (no-fault e)))
 
 pub multiply-spec : {M : Type 1} → statement M
 multiply-spec =

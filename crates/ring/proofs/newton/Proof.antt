@@ -1,9 +1,10 @@
+-- `ring::newton` meets its contract: two products and a difference. Assumes nothing.
 use native.Mathlib.Omega.{arith}
 use mathlib.Core.Path.{_≡_, sym, ap, _∙_}
 use lib.ListN.{length, take}
 use lib.Seq.{length-take-le}
 use Rattle.words.specs.Word.{subW}
-use Rattle.ring.specs.Element.{product, lower, held, difference}
+use Rattle.ring.specs.Element.{product, lower, difference}
 use Rattle.ring.specs.Inversion.{newton, twoE}
 use Rattle.ring.proofs.Table.{length-lower}
 use Rattle.ring.proofs.Lists.{length-product, length-zip}
@@ -12,24 +13,16 @@ use Rattle.ring.proofs.Held.{held-take, const-held, difference-held}
 use borrow.Author.Needs.{needs}
 use Rattle.ring.proofs.newton.Statement.{statement}
 use Rattle.ring.proofs.newton.Tie as tie
-use Rattle.ring.proofs.newton.Reads as reads
-use Rattle.ring.proofs.newton.Lts as lts
-use Rattle.ring.proofs.difference.Reads as difference-reads
-use Rattle.ring.proofs.product.Reads as product-reads
 
--- src/lib.rt:236:9
 product-requires : tie.Need-product-requires
 product-requires c κs = search needs
 
--- src/lib.rt:237:9
 difference-requires : tie.Need-difference-requires
 difference-requires c κs = search needs
 
--- src/lib.rt:238:5
 product-requires-2 : tie.Need-product-requires-2
 product-requires-2 c κs = search needs
 
--- src/lib.rt:232:1
 returns : tie.Need-returns
 unfolding newton
 returns c =
@@ -48,7 +41,8 @@ returns c =
     let eq : take d (c .before .difference .result) ≡ q =
     ap (take d)
     (c .before .difference .ensures
-    ∙ rw (c .before .before .product .ensures, ← const-held 2 d (omega arith) (omega arith)) (difference-held k d (twoE d) b (length-two d) hb (omega arith)))
+    ∙ rw (c .before .before .product .ensures, ← const-held 2 d (omega arith) (omega arith))
+    (difference-held k d (twoE d) b (length-two d) hb (omega arith)))
     ∙ held-take d q hq in
     c .product2 .ensures ∙ rw eq
 

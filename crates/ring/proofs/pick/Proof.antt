@@ -1,16 +1,13 @@
+-- `ring::pick` meets its contract: both values of c. Assumes nothing.
 use mathlib.Core.Path.{_≡_}
 use native.Mathlib.Nat.{zero-mul, one-mul}
 use native.Mathlib.Omega.{arith}
 use Rattle.ring.proofs.pick.Statement.{statement}
 use Rattle.ring.proofs.pick.Tie as tie
-use Rattle.ring.proofs.pick.Reads as reads
-use Rattle.ring.proofs.pick.Lts as lts
 
--- src/lib.rt:61:9
 returns : tie.Need-returns
 returns c = rw (c .if1 .taken, zero-mul)
 
--- src/lib.rt:56:1
 returns-2 : tie.Need-returns-2
 returns-2 c =
     let e : c .before .args .c ≡ 1 = omega (arith, c .if1 .left) in

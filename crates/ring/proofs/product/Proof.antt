@@ -1,7 +1,8 @@
+-- `ring::product` meets its contract: a turn of the loop takes one word more of the first factor. Assumes nothing.
 use borrow.Author.Needs.{needs}
 use native.Mathlib.Omega.{arith}
-use mathlib.Core.Path.{_≡_, refl, sym, ap, _∙_}
-use Prim.Native.Nat.{ℕ, _-_, _≤_, _<_}
+use mathlib.Core.Path.{_≡_, refl, sym, _∙_}
+use Prim.Native.Nat.{_-_, _≤_}
 use lib.ListN.{length, take, drop, getD}
 use lib.Seq.{length-take-le, getD-take}
 use Rattle.ring.specs.Element.{downW, plusW, lower, product}
@@ -11,11 +12,6 @@ use Rattle.ring.proofs.Held.{held-same}
 use Rattle.ring.proofs.Horner.{turn, turn-length, no-turn}
 use Rattle.ring.proofs.product.Statement.{statement}
 use Rattle.ring.proofs.product.Tie as tie
-use Rattle.ring.proofs.product.Reads as reads
-use Rattle.ring.proofs.product.Lts as lts
-use Rattle.ring.proofs.add_scaled.Reads as add-scaled-reads
-use Rattle.ring.proofs.keep.Reads as keep-reads
-use Rattle.ring.proofs.shift.Reads as shift-reads
 
 abbrev Inv-loop : tie.InvT-loop
 Inv-loop k d low b a r₀ i₀ r i = (i ≤ d) × (length r ≡ 6) × (take d r ≡ product k (lower d) (drop i (take d a)) (take d b))
@@ -23,7 +19,6 @@ Inv-loop k d low b a r₀ i₀ r i = (i ≤ d) × (length r ≡ 6) × (take d r 
 abbrev μ-loop : tie.MeasureT-loop
 μ-loop k d low b a r₀ i₀ r i = i
 
--- src/lib.rt:162:5
 loop-holds : tie.Need-loop-holds Inv-loop μ-loop
 loop-holds c =
     let d = c .args .d in
@@ -31,31 +26,24 @@ loop-holds c =
     let ha : length (take d (c .args .t4)) ≡ d = length-take-le d (c .args .t4) (omega arith) in
     (search needs, refl, no-turn (c .args .k) d (take (c .args .d) (c .args .t4)) (take d (c .args .b)) (omega arith) (omega arith) ha)
 
--- src/lib.rt:163:9
 sub-i : tie.Need-sub-i Inv-loop μ-loop
 sub-i c = search needs
 
--- src/lib.rt:164:13
 shift-requires : tie.Need-shift-requires Inv-loop μ-loop
 shift-requires c κs = search needs
 
--- src/lib.rt:165:27
 mul-add-scaled : tie.Need-mul-add-scaled Inv-loop μ-loop
 mul-add-scaled c = search needs
 
--- src/lib.rt:165:27
 array-read-add-scaled : tie.Need-array-read-add-scaled Inv-loop μ-loop
 array-read-add-scaled c = search needs
 
--- src/lib.rt:165:9
 add-scaled-requires : tie.Need-add-scaled-requires Inv-loop μ-loop
 add-scaled-requires c κs = search needs
 
--- src/lib.rt:162:5
 loop-less : tie.Need-loop-less Inv-loop μ-loop
 loop-less c = search needs
 
--- src/lib.rt:162:5
 loop-again : tie.Need-loop-again Inv-loop μ-loop
 loop-again c =
     let l = c .before .before .before in
@@ -75,14 +63,13 @@ loop-again c =
       omega arith,
       rw (c .add-scaled .ensures, c .before .shift .ensures) (turn-length (plusW k c₁) (downW k (getD r (d - 1) 0)) r low b (l .loop .inv .1) hl hb),
       rw (c .add-scaled .ensures, c .before .shift .ensures, s .pre .2)
-          (turn k d r a b i c₁ (omega arith) (omega arith) (omega arith) (omega arith) (omega arith) (sym (getD-take d (s .args .t4) (i - 1) 0 (omega arith))) (l .loop .inv .2)),
+          (turn k d r a b i c₁ (omega arith) (omega arith) (omega arith) (omega arith) (omega arith)
+          (sym (getD-take d (s .args .t4) (i - 1) 0 (omega arith))) (l .loop .inv .2)),
     )
 
--- src/lib.rt:167:5
 keep-requires : tie.Need-keep-requires Inv-loop μ-loop
 keep-requires c κs = search needs
 
--- src/lib.rt:156:1
 returns : tie.Need-returns Inv-loop μ-loop
 returns c =
     let l = c .before .before in
@@ -92,9 +79,10 @@ returns c =
     let hb : length b ≡ 6 = omega (arith, s .good) in
     let hl : length (lower d) ≡ d = length-lower d (omega arith) (omega arith) in
     let e : l .loop .i ≡ 0 = omega arith in
-    let p = product (s .args .k) (lower d) (take (s .args .d) (s .args .t4)) (take d b) in
+    let a = take d (s .args .t4) in
+    let p = product (s .args .k) (lower d) a (take d b) in
     let q : take d (l .loop .r) ≡ p = rw e at (l .loop .inv .2) in
-    let hp : length p ≡ d = length-product (s .args .k) (lower d) (take (s .args .d) (s .args .t4)) (take d b) (length-take-le d b (omega arith) ∙ sym hl) ∙ hl in
+    let hp : length p ≡ d = length-product (s .args .k) (lower d) a (take d b) (length-take-le d b (omega arith) ∙ sym hl) ∙ hl in
     c .keep .ensures ∙ held-same d (l .loop .r) p q hp
 
 pub product-spec : {M : Type 1} → statement M

@@ -1,7 +1,8 @@
+-- `ring::product_by_point` meets its contract: a turn of the loop takes one bit more of the holder. Assumes nothing.
 use borrow.Author.Needs.{needs}
 use native.Mathlib.Omega.{arith}
-use mathlib.Core.Path.{_≡_, refl, ap, _∙_, sym}
-use Prim.Native.Nat.{ℕ, _-_, _/_, _%_, _^_, _≤_, _<_}
+use mathlib.Core.Path.{_≡_, refl, _∙_, sym}
+use Prim.Native.Nat.{_-_, _/_, _%_, _^_, _≤_}
 use lib.ListN.{length, take, drop, getD}
 use lib.Seq.{length-take-le}
 use Rattle.ring.specs.Element.{downW, plusW, lower, point, product}
@@ -13,11 +14,6 @@ use Rattle.ring.proofs.Points.{length-point}
 use Rattle.ring.proofs.Horner.{turn, turn-length, no-turn}
 use Rattle.ring.proofs.product_by_point.Statement.{statement}
 use Rattle.ring.proofs.product_by_point.Tie as tie
-use Rattle.ring.proofs.product_by_point.Reads as reads
-use Rattle.ring.proofs.product_by_point.Lts as lts
-use Rattle.ring.proofs.add_picked.Reads as add-picked-reads
-use Rattle.ring.proofs.keep.Reads as keep-reads
-use Rattle.ring.proofs.shift.Reads as shift-reads
 
 abbrev Inv-loop : tie.InvT-loop
 Inv-loop k d low a i r₀ j₀ r j = (j ≤ d) × (length r ≡ 6) × (take d r ≡ product k (lower d) (drop j (point d i)) (take d a))
@@ -25,34 +21,27 @@ Inv-loop k d low a i r₀ j₀ r j = (j ≤ d) × (length r ≡ 6) × (take d r 
 abbrev μ-loop : tie.MeasureT-loop
 μ-loop k d low a i r₀ j₀ r j = j
 
--- src/lib.rt:189:5
 loop-holds : tie.Need-loop-holds Inv-loop μ-loop
 loop-holds c =
     let d = c .args .d in
     let ha : length (point d (c .args .i)) ≡ d = length-point d (c .args .i) in
     (search needs, refl, no-turn (c .args .k) d (point (c .args .d) (c .args .i)) (take d (c .args .a)) (omega arith) (omega arith) ha)
 
--- src/lib.rt:190:9
 sub-j : tie.Need-sub-j Inv-loop μ-loop
 sub-j c = search needs
 
--- src/lib.rt:191:13
 shift-requires : tie.Need-shift-requires Inv-loop μ-loop
 shift-requires c κs = search needs
 
--- src/lib.rt:192:28
 shr-add-picked : tie.Need-shr-add-picked Inv-loop μ-loop
 shr-add-picked c = search needs
 
--- src/lib.rt:192:9
 add-picked-requires : tie.Need-add-picked-requires Inv-loop μ-loop
 add-picked-requires c κs = search needs
 
--- src/lib.rt:189:5
 loop-less : tie.Need-loop-less Inv-loop μ-loop
 loop-less c = search needs
 
--- src/lib.rt:189:5
 loop-again : tie.Need-loop-again Inv-loop μ-loop
 loop-again c =
     let l = c .before .before .before in
@@ -71,14 +60,13 @@ loop-again c =
       omega arith,
       rw (c .add-picked .ensures, c .before .shift .ensures) (turn-length (plusW k c₁) (downW k (getD r (d - 1) 0)) r low b (l .loop .inv .1) hl hb),
       rw (c .add-picked .ensures, c .before .shift .ensures, s .pre .2)
-          (turn k d r a b i c₁ (omega arith) (omega arith) (omega arith) (omega arith) (omega arith) (sym (point-at d (s .args .i) (i - 1) (omega arith))) (l .loop .inv .2)),
+          (turn k d r a b i c₁ (omega arith) (omega arith) (omega arith) (omega arith) (omega arith)
+          (sym (point-at d (s .args .i) (i - 1) (omega arith))) (l .loop .inv .2)),
     )
 
--- src/lib.rt:194:5
 keep-requires : tie.Need-keep-requires Inv-loop μ-loop
 keep-requires c κs = search needs
 
--- src/lib.rt:183:1
 returns : tie.Need-returns Inv-loop μ-loop
 returns c =
     let l = c .before .before in
@@ -88,9 +76,10 @@ returns c =
     let hb : length b ≡ 6 = omega (arith, s .good) in
     let hl : length (lower d) ≡ d = length-lower d (omega arith) (omega arith) in
     let e : l .loop .j ≡ 0 = omega arith in
-    let p = product (s .args .k) (lower d) (point (s .args .d) (s .args .i)) (take d b) in
+    let a = point d (s .args .i) in
+    let p = product (s .args .k) (lower d) a (take d b) in
     let q : take d (l .loop .r) ≡ p = rw e at (l .loop .inv .2) in
-    let hp : length p ≡ d = length-product (s .args .k) (lower d) (point (s .args .d) (s .args .i)) (take d b) (length-take-le d b (omega arith) ∙ sym hl) ∙ hl in
+    let hp : length p ≡ d = length-product (s .args .k) (lower d) a (take d b) (length-take-le d b (omega arith) ∙ sym hl) ∙ hl in
     c .keep .ensures ∙ held-same d (l .loop .r) p q hp
 
 pub product-by-point-spec : {M : Type 1} → statement M

@@ -1,3 +1,4 @@
+-- `ring::shift` meets its contract: six words one place up. Assumes nothing.
 use native.Mathlib.Omega.{arith}
 use mathlib.Core.Path.{_≡_, sym}
 use Prim.Native.Nat.{ℕ, _-_, _≤_, _<_}
@@ -8,9 +9,6 @@ use Rattle.ring.proofs.Held.{low-bit}
 use borrow.Author.Needs.{needs}
 use Rattle.ring.proofs.shift.Statement.{statement}
 use Rattle.ring.proofs.shift.Tie as tie
-use Rattle.ring.proofs.shift.Reads as reads
-use Rattle.ring.proofs.shift.Lts as lts
-use Rattle.ring.proofs.down.Reads as down-reads
 
 -- the modulus's coefficients are 0 and 1
 coefficient : (s : tie.Start) (j : ℕ) → j < 6 → getD (s .args .t3) j 0 ≤ 1
@@ -18,87 +16,66 @@ coefficient s j h =
     let hl : length (s .args .t3) ≡ 6 = omega (arith, s .good) in
     low-bit (s .args .d) (s .args .t3) (s .pre .2) (s .pre .1 .1) j (omega arith)
 
--- src/lib.rt:81:17
 sub-top : tie.Need-sub-top
 sub-top c = search needs
 
--- src/lib.rt:81:15
 mul-top : tie.Need-mul-top
 mul-top c = search needs
 
--- src/lib.rt:81:15
 array-read-top : tie.Need-array-read-top
 array-read-top c = search needs
 
--- src/lib.rt:83:25
 array-read-down : tie.Need-array-read-down
 array-read-down c = search needs
 
--- src/lib.rt:83:9
 down-requires : tie.Need-down-requires
 down-requires c κs = (c .pre .0, coefficient c 0 (omega arith))
 
--- src/lib.rt:84:22
 array-read-down-2 : tie.Need-array-read-down-2
 array-read-down-2 c = search needs
 
--- src/lib.rt:84:28
 array-read-down-3 : tie.Need-array-read-down-3
 array-read-down-3 c = search needs
 
--- src/lib.rt:84:9
 down-requires-2 : tie.Need-down-requires-2
 down-requires-2 c κs = (c .before .pre .0, coefficient (c .before) 1 (omega arith))
 
--- src/lib.rt:85:22
 array-read-down-4 : tie.Need-array-read-down-4
 array-read-down-4 c = search needs
 
--- src/lib.rt:85:28
 array-read-down-5 : tie.Need-array-read-down-5
 array-read-down-5 c = search needs
 
--- src/lib.rt:85:9
 down-requires-3 : tie.Need-down-requires-3
 down-requires-3 c κs = (c .before .before .pre .0, coefficient (c .before .before) 2 (omega arith))
 
--- src/lib.rt:86:22
 array-read-down-6 : tie.Need-array-read-down-6
 array-read-down-6 c = search needs
 
--- src/lib.rt:86:28
 array-read-down-7 : tie.Need-array-read-down-7
 array-read-down-7 c = search needs
 
--- src/lib.rt:86:9
 down-requires-4 : tie.Need-down-requires-4
 down-requires-4 c κs = (c .before .before .before .pre .0, coefficient (c .before .before .before) 3 (omega arith))
 
--- src/lib.rt:87:22
 array-read-down-8 : tie.Need-array-read-down-8
 array-read-down-8 c = search needs
 
--- src/lib.rt:87:28
 array-read-down-9 : tie.Need-array-read-down-9
 array-read-down-9 c = search needs
 
--- src/lib.rt:87:9
 down-requires-5 : tie.Need-down-requires-5
 down-requires-5 c κs = (c .before .before .before .before .pre .0, coefficient (c .before .before .before .before) 4 (omega arith))
 
--- src/lib.rt:88:22
 array-read-down-10 : tie.Need-array-read-down-10
 array-read-down-10 c = search needs
 
--- src/lib.rt:88:28
 array-read-down-11 : tie.Need-array-read-down-11
 array-read-down-11 c = search needs
 
--- src/lib.rt:88:9
 down-requires-6 : tie.Need-down-requires-6
 down-requires-6 c κs = (c .before .before .before .before .before .pre .0, coefficient (c .before .before .before .before .before) 5 (omega arith))
 
--- src/lib.rt:77:1
 returns : tie.Need-returns
 returns c =
     let s = c .before .before .before .before .before .before in

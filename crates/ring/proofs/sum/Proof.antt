@@ -1,3 +1,4 @@
+-- `ring::sum` meets its contract: six sums are the sum word by word. Assumes nothing.
 use native.Mathlib.Omega.{arith}
 use mathlib.Core.Path.{_≡_, sym}
 use lib.ListN.{length}
@@ -6,83 +7,61 @@ use Rattle.ring.proofs.Zip.{zip-six}
 use borrow.Author.Needs.{needs}
 use Rattle.ring.proofs.sum.Statement.{statement}
 use Rattle.ring.proofs.sum.Tie as tie
-use Rattle.ring.proofs.sum.Reads as reads
-use Rattle.ring.proofs.sum.Lts as lts
-use Rattle.words.proofs.add.Reads as add-reads
 
--- src/lib.rt:32:23
 array-read-add : tie.Need-array-read-add
 array-read-add c = search needs
 
--- src/lib.rt:32:29
 array-read-add-2 : tie.Need-array-read-add-2
 array-read-add-2 c = search needs
 
--- src/lib.rt:32:9
 add-requires : tie.Need-add-requires
 add-requires c κs = search needs
 
--- src/lib.rt:33:23
 array-read-add-3 : tie.Need-array-read-add-3
 array-read-add-3 c = search needs
 
--- src/lib.rt:33:29
 array-read-add-4 : tie.Need-array-read-add-4
 array-read-add-4 c = search needs
 
--- src/lib.rt:33:9
 add-requires-2 : tie.Need-add-requires-2
 add-requires-2 c κs = search needs
 
--- src/lib.rt:34:23
 array-read-add-5 : tie.Need-array-read-add-5
 array-read-add-5 c = search needs
 
--- src/lib.rt:34:29
 array-read-add-6 : tie.Need-array-read-add-6
 array-read-add-6 c = search needs
 
--- src/lib.rt:34:9
 add-requires-3 : tie.Need-add-requires-3
 add-requires-3 c κs = search needs
 
--- src/lib.rt:35:23
 array-read-add-7 : tie.Need-array-read-add-7
 array-read-add-7 c = search needs
 
--- src/lib.rt:35:29
 array-read-add-8 : tie.Need-array-read-add-8
 array-read-add-8 c = search needs
 
--- src/lib.rt:35:9
 add-requires-4 : tie.Need-add-requires-4
 add-requires-4 c κs = search needs
 
--- src/lib.rt:36:23
 array-read-add-9 : tie.Need-array-read-add-9
 array-read-add-9 c = search needs
 
--- src/lib.rt:36:29
 array-read-add-10 : tie.Need-array-read-add-10
 array-read-add-10 c = search needs
 
--- src/lib.rt:36:9
 add-requires-5 : tie.Need-add-requires-5
 add-requires-5 c κs = search needs
 
--- src/lib.rt:37:23
 array-read-add-11 : tie.Need-array-read-add-11
 array-read-add-11 c = search needs
 
--- src/lib.rt:37:29
 array-read-add-12 : tie.Need-array-read-add-12
 array-read-add-12 c = search needs
 
--- src/lib.rt:37:9
 add-requires-6 : tie.Need-add-requires-6
 add-requires-6 c κs = search needs
 
--- src/lib.rt:27:1
 returns : tie.Need-returns
 returns c =
     let s = c .before .before .before .before .before .before in

@@ -1,5 +1,6 @@
+-- `ring::times_x` meets its contract: the first d words of a shift are X times the element. Assumes nothing.
 use native.Mathlib.Omega.{arith}
-use mathlib.Core.Path.{_≡_, _∙_, sym, ap}
+use mathlib.Core.Path.{_≡_, _∙_, sym}
 use lib.ListN.{length, take}
 use lib.Seq.{length-take-le}
 use Rattle.ring.specs.Element.{lower, timesX}
@@ -10,20 +11,13 @@ use Rattle.ring.proofs.Horner.{shift-take}
 use borrow.Author.Needs.{needs}
 use Rattle.ring.proofs.times_x.Statement.{statement}
 use Rattle.ring.proofs.times_x.Tie as tie
-use Rattle.ring.proofs.times_x.Reads as reads
-use Rattle.ring.proofs.times_x.Lts as lts
-use Rattle.ring.proofs.keep.Reads as keep-reads
-use Rattle.ring.proofs.shift.Reads as shift-reads
 
--- src/lib.rt:122:13
 shift-requires : tie.Need-shift-requires
 shift-requires c κs = search needs
 
--- src/lib.rt:122:5
 keep-requires : tie.Need-keep-requires
 keep-requires c κs = search needs
 
--- src/lib.rt:118:1
 returns : tie.Need-returns
 returns c =
     let s = c .before .before in

@@ -1,23 +1,17 @@
+-- `words::add` meets its contract: the sum modulo 2^64, cut to k bits. Assumes nothing.
 use borrow.Author.Needs.{needs}
-use mathlib.Core.Path.{_≡_, _∙_}
+use mathlib.Core.Path.{_∙_}
 use Rattle.words.specs.Word.{addW}
 use Rattle.words.proofs.Mod.{mod-narrow}
 use Rattle.words.proofs.add.Statement.{statement}
 use Rattle.words.proofs.add.Tie as tie
-use Rattle.words.proofs.add.Reads as reads
-use Rattle.words.proofs.add.Lts as lts
-use Rattle.std.proofs.num.wrapping_add_u64.Reads as wrapping-add-u64-reads
-use Rattle.words.proofs.low_bits.Reads as low-bits-reads
 
--- src/lib.rt:31:14
 wrapping-add-u64-requires : tie.Need-wrapping-add-u64-requires
 wrapping-add-u64-requires c κs = search needs
 
--- src/lib.rt:31:5
 low-bits-requires : tie.Need-low-bits-requires
 low-bits-requires c κs = search needs
 
--- src/lib.rt:27:1
 returns : tie.Need-returns
 unfolding addW
 returns c =

@@ -1,36 +1,28 @@
+-- `words::mul64` meets its contract: halves of 32 bits give the product modulo 2^64. Assumes nothing.
 use borrow.Author.Needs.{needs}
 use Prim.Native.Nat.{_*_, _/_, _%_, _^_}
-use mathlib.Core.Path.{_≡_, _∙_}
+use mathlib.Core.Path.{_∙_}
 use Rattle.words.proofs.Mod.{below, halves, mods}
 use lib.Pow.{shr-lt, split}
 use lib.Bits.{mask-lt, and-mask}
 use Rattle.words.proofs.mul64.Statement.{statement}
 use Rattle.words.proofs.mul64.Tie as tie
-use Rattle.words.proofs.mul64.Reads as reads
-use Rattle.words.proofs.mul64.Lts as lts
-use Rattle.std.proofs.num.wrapping_add_u64.Reads as wrapping-add-u64-reads
 
--- src/lib.rt:14:42
 mul-wrapping-add-u64 : tie.Need-mul-wrapping-add-u64
 mul-wrapping-add-u64 c = record { fits = below 32 (mask-lt (c .args .a) 32) (shr-lt 32 32 (c .fits .b .fits)) }
 
--- src/lib.rt:14:51
 mul-wrapping-add-u64-2 : tie.Need-mul-wrapping-add-u64-2
 mul-wrapping-add-u64-2 c = record { fits = below 32 (shr-lt 32 32 (c .fits .a .fits)) (mask-lt (c .args .b) 32) }
 
--- src/lib.rt:14:9
 wrapping-add-u64-requires : tie.Need-wrapping-add-u64-requires
 wrapping-add-u64-requires c κs = search needs
 
--- src/lib.rt:15:43
 mul-wrapping-add-u64-3 : tie.Need-mul-wrapping-add-u64-3
 mul-wrapping-add-u64-3 c = record { fits = below 32 (mask-lt (c .before .args .a) 32) (mask-lt (c .before .args .b) 32) }
 
--- src/lib.rt:15:5
 wrapping-add-u64-requires-2 : tie.Need-wrapping-add-u64-requires-2
 wrapping-add-u64-requires-2 c κs = search needs
 
--- src/lib.rt:7:1
 returns : tie.Need-returns
 returns c =
     let a = c .before .before .args .a in

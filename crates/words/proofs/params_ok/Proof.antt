@@ -1,10 +1,9 @@
 -- `words::params_ok` meets its contract: parameters in their ranges would pass each test that failed. Assumes nothing.
-use mathlib.Core.Path.{_≡_, sym, _∙_}
-use mathlib.Core.Bool.{true, false}
+use mathlib.Core.Path.{_≡_, sym}
+use mathlib.Core.Bool.{false}
 use borrow.Author.Needs.{needs}
 use borrow.Author.Tests.{lt-ltb, ltb-true}
 use native.Mathlib.Omega.{arith}
-use lib.Dec.{ltb}
 use Rattle.words.specs.Params.{paramsOk}
 use Rattle.words.proofs.Tests.{not-held, same-test}
 use Rattle.words.proofs.InRange.{InRange, range-ok, ok-range}

@@ -1,6 +1,6 @@
+-- `words::read_signed` meets its contract: the top bit decides. Assumes nothing.
 use borrow.Author.Tests.{lt-ltb, le-ltb}
 use native.Mathlib.Omega.{arith}
-use mathlib.Core.Path.{_≡_}
 use Prim.Native.Nat.{_-_, _^_, _≤_, _<_}
 use lib.Pow.{pow-pos}
 use Rattle.words.specs.Signed.{signedOf}
@@ -8,30 +8,22 @@ use Rattle.words.proofs.Reading.{top-clear, top-set, negated}
 use borrow.Author.Needs.{needs}
 use Rattle.words.proofs.read_signed.Statement.{statement}
 use Rattle.words.proofs.read_signed.Tie as tie
-use Rattle.words.proofs.read_signed.Reads as reads
-use Rattle.words.proofs.read_signed.Lts as lts
-use Rattle.words.proofs.sub.Reads as sub-reads
 
--- src/lib.rt:149:14
 sub-if1 : tie.Need-sub-if1
 sub-if1 c = search needs
 
--- src/lib.rt:149:8
 shr-if1 : tie.Need-shr-if1
 shr-if1 c = search needs
 
--- src/lib.rt:150:9
 returns : tie.Need-returns
 unfolding signedOf
 returns c =
     let s = c .before in
     rw (lt-ltb (s .args .w) (2 ^ (s .args .k - 1)) (top-clear (s .args .w) (2 ^ (s .args .k - 1)) (pow-pos (s .args .k - 1)) (c .if1 .taken)))
 
--- src/lib.rt:157:20
 sub-requires : tie.Need-sub-requires
 sub-requires c κs = search needs
 
--- src/lib.rt:145:1
 returns-2 : tie.Need-returns-2
 unfolding signedOf
 returns-2 c =

@@ -1,23 +1,17 @@
+-- `words::sub` meets its contract: the difference modulo 2^64, cut to k bits. Assumes nothing.
 use borrow.Author.Needs.{needs}
-use mathlib.Core.Path.{_≡_, _∙_}
+use mathlib.Core.Path.{_∙_}
 use Rattle.words.specs.Word.{subW}
 use Rattle.words.proofs.Mod.{sub-cut}
 use Rattle.words.proofs.sub.Statement.{statement}
 use Rattle.words.proofs.sub.Tie as tie
-use Rattle.words.proofs.sub.Reads as reads
-use Rattle.words.proofs.sub.Lts as lts
-use Rattle.std.proofs.num.wrapping_sub_u64.Reads as wrapping-sub-u64-reads
-use Rattle.words.proofs.low_bits.Reads as low-bits-reads
 
--- src/lib.rt:45:14
 wrapping-sub-u64-requires : tie.Need-wrapping-sub-u64-requires
 wrapping-sub-u64-requires c κs = search needs
 
--- src/lib.rt:45:5
 low-bits-requires : tie.Need-low-bits-requires
 low-bits-requires c κs = search needs
 
--- src/lib.rt:41:1
 returns : tie.Need-returns
 unfolding subW
 returns c =

@@ -1,5 +1,4 @@
 -- `words::two_to` meets its contract, arm by arm. Assumes nothing.
-use mathlib.Core.Path.{_≡_}
 use native.Mathlib.Omega.{arith}
 use Rattle.words.proofs.InRange.{six}
 use Rattle.words.proofs.two_to.Statement.{statement}
