@@ -47,7 +47,7 @@ candidate k d t e ss c i only = go (decLe (errors k d c ss) e)
         far f j (no n) = omega arith
 
 -- what holds of each holds of a member
-member : {S : Type 0} (P : S → Type 0) (ss : List S) → All P ss → (s : S) → List·Memᴰ s ss → P s
+pub member : {S : Type 0} (P : S → Type 0) (ss : List S) → All P ss → (s : S) → List·Memᴰ s ss → P s
 member P (r ∷ ss) a s (List·Memᴰ·head e) = subst P (sym e) (a .0)
 member P (r ∷ ss) a s (List·Memᴰ·tail m) = member P ss (a .1) s m
 
