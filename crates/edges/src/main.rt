@@ -56,7 +56,7 @@ fn params(k: u64, d: usize, n: usize, t: usize) -> Params {
     Params { k, d, n, t }
 }
 
-fn parameters() {
+fn widths_of_words() {
     let mut o = [0, 0];
     add(b"k 0", params(0, 2, 3, 1), &[0, 0], &[0, 0], &mut o);
     add(b"k 1", params(1, 2, 3, 1), &[1, 0], &[1, 1], &mut o);
@@ -68,6 +68,9 @@ fn parameters() {
         &mut o,
     );
     add(b"k 65", params(65, 2, 3, 1), &[0, 0], &[0, 0], &mut o);
+}
+
+fn words_of_elements() {
     let mut o1 = [0];
     add(b"d 1", params(3, 1, 1, 0), &[1], &[1], &mut o1);
     let mut o7 = [0, 0, 0, 0, 0, 0, 0];
@@ -95,7 +98,7 @@ fn parameters() {
     );
 }
 
-fn holders() {
+fn holders_and_degrees() {
     let mut o = [0, 0];
     add(b"n 0", params(3, 2, 0, 0), &[1, 2], &[3, 4], &mut o);
     add(b"n 1, t 0", params(3, 2, 1, 0), &[1, 2], &[3, 4], &mut o);
@@ -108,6 +111,9 @@ fn holders() {
         &[3, 4],
         &mut o,
     );
+}
+
+fn most_holders() {
     let mut o4 = [0, 0, 0, 0];
     add(
         b"n 15 with d 4",
@@ -125,17 +131,30 @@ fn holders() {
     );
 }
 
-fn lengths() {
+fn operand_lengths() {
     let p = params(3, 2, 3, 1);
     let mut o = [0, 0];
     add(b"first one word short", p, &[1], &[3, 4], &mut o);
     add(b"first one word long", p, &[1, 2, 3], &[3, 4], &mut o);
     add(b"second one word short", p, &[1, 2], &[3], &mut o);
     add(b"second one word long", p, &[1, 2], &[3, 4, 5], &mut o);
+    invert(b"operand one word short", p, &[1], &mut o);
+}
+
+fn output_lengths() {
+    let p = params(3, 2, 3, 1);
     let mut o1 = [0];
     let mut o3 = [0, 0, 0];
     add(b"output one word short", p, &[1, 2], &[3, 4], &mut o1);
     add(b"output one word long", p, &[1, 2], &[3, 4], &mut o3);
+    multiply(b"output one word long", p, &[1, 2], &[3, 4], &mut o3);
+    invert(b"output one word short", p, &[1, 3], &mut o1);
+}
+
+fn order() {
+    let p = params(3, 2, 3, 1);
+    let mut o = [0, 0];
+    let mut o1 = [0];
     add(
         b"parameters before length",
         params(0, 2, 3, 1),
@@ -145,12 +164,10 @@ fn lengths() {
     );
     add(b"length before width", p, &[8, 2], &[3, 4], &mut o1);
     multiply(b"length before width", p, &[8, 2], &[3], &mut o);
-    multiply(b"output one word long", p, &[1, 2], &[3, 4], &mut o3);
-    invert(b"operand one word short", p, &[1], &mut o);
-    invert(b"output one word short", p, &[1, 8], &mut o1);
+    invert(b"length before width", p, &[1, 8], &mut o1);
 }
 
-fn widths() {
+fn sums_in_width() {
     let p = params(3, 2, 3, 1);
     let mut o = [0, 0];
     add(b"7 at k 3", p, &[7, 3], &[7, 1], &mut o);
@@ -171,6 +188,11 @@ fn widths() {
         &[3, 9223372036854775808],
         &mut o,
     );
+}
+
+fn products_in_width() {
+    let p = params(3, 2, 3, 1);
+    let mut o = [0, 0];
     multiply(b"8 at k 3", p, &[0, 1], &[8, 1], &mut o);
     multiply(
         b"2^64 - 1 at k 64",
@@ -183,16 +205,11 @@ fn widths() {
     invert(b"k 65", params(65, 2, 3, 1), &[0, 1], &mut o);
 }
 
-fn values() {
+fn products() {
     let p = params(3, 2, 3, 1);
     let mut o = [0, 0];
     multiply(b"(0,1) by (0,1)", p, &[0, 1], &[0, 1], &mut o);
     multiply(b"(0,1) by (1,1)", p, &[0, 1], &[1, 1], &mut o);
-    invert(b"(0,1)", p, &[0, 1], &mut o);
-    invert(b"one", p, &[1, 0], &mut o);
-    invert(b"(2,4), zero modulo two", p, &[2, 4], &mut o);
-    invert(b"zero", p, &[0, 0], &mut o);
-    invert(b"(3,0) at k 64", params(64, 2, 3, 1), &[3, 0], &mut o);
     let mut o4 = [0, 0, 0, 0];
     multiply(
         b"X^3 by X at k 64",
@@ -201,6 +218,16 @@ fn values() {
         &[0, 1, 0, 0],
         &mut o4,
     );
+}
+
+fn inverses() {
+    let p = params(3, 2, 3, 1);
+    let mut o = [0, 0];
+    invert(b"(0,1)", p, &[0, 1], &mut o);
+    invert(b"one", p, &[1, 0], &mut o);
+    invert(b"(2,4), zero modulo two", p, &[2, 4], &mut o);
+    invert(b"zero", p, &[0, 0], &mut o);
+    invert(b"(3,0) at k 64", params(64, 2, 3, 1), &[3, 0], &mut o);
     let mut o6 = [0, 0, 0, 0, 0, 0];
     invert(
         b"X at k 64, d 6",
@@ -225,16 +252,26 @@ fn signed(edge: &[u8], k: u64, w: u64)
     text(b"\n");
 }
 
-fn main() {
-    parameters();
-    holders();
-    lengths();
-    widths();
-    values();
+fn readings() {
     signed(b"127 at k 8", 8, 127);
     signed(b"128 at k 8", 8, 128);
     signed(b"0 at k 1", 1, 0);
     signed(b"1 at k 1", 1, 1);
     signed(b"2^63 - 1 at k 64", 64, 9223372036854775807);
     signed(b"2^63 at k 64", 64, 9223372036854775808);
+}
+
+fn main() {
+    widths_of_words();
+    words_of_elements();
+    holders_and_degrees();
+    most_holders();
+    operand_lengths();
+    output_lengths();
+    order();
+    sums_in_width();
+    products_in_width();
+    products();
+    inverses();
+    readings();
 }

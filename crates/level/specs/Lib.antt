@@ -1,0 +1,4 @@
+pub mod KeyEquation
+pub mod Level
+pub mod Shares
+pub mod Trusted

@@ -1,0 +1,10 @@
+-- The laws that the proofs cite, and the theorems.
+pub mod Elements
+pub mod Dealt
+pub mod Faults
+pub mod Lent
+pub mod Loaded
+pub mod Opens
+pub mod Answers
+pub mod Values
+pub mod DealtOpens

@@ -1,0 +1,109 @@
+-- The words that holders have of a polynomial: those of dealt shares, of their sums and of their multiples. Assumes nothing.
+use mathlib.Core.Path.{_≡_, refl, sym, _∙_, ap, ap₂}
+use mathlib.Core.Bool.{Bool, true, not, _&&_}
+use mathlib.Core.List.{List, [], _∷_, _++_, map}
+use Prim.Native.Nat.{ℕ, zero, suc, _+_, _-_, _*_, _^_, _≤_, _<_}
+use native.Mathlib.Nat.{zero-mul}
+use native.Mathlib.Omega.{arith}
+use lib.Dec.{leb, ltb}
+use lib.ListN.{length, take, drop, length-append}
+use lib.Seq.{take-at, drop-at}
+use borrow.Author.Tests.{leb-true, ltb-true}
+use Rattle.words.specs.Word.{inWidth, allInWidth}
+use Rattle.words.proofs.Tests.{and-left, and-right, and-both}
+use Rattle.ring.specs.Element.{Element, sum, product, lower, point, same}
+use Rattle.ring.proofs.Elements.{same-refl}
+use Rattle.ring.proofs.Points.{length-point}
+use Rattle.polynomial.specs.Polynomial.{Polynomial, value}
+use Rattle.codewords.specs.Codeword.{Share, when, differs, errorSet}
+use Rattle.codewords.proofs.Value.{Rows, value-element}
+use Rattle.codewords.proofs.Linear.{sums, multiple, value-sum, value-multiple}
+use Rattle.sharing.specs.Dealing.{dealtFrom}
+use Rattle.sharing.specs.Lists.{ofHolders, onEach, onPairs, changedSet}
+use Rattle.sharing.specs.Opening.{lent, risingTo}
+use Rattle.sharing.proofs.Dealt.{share-length, share-at}
+
+-- the words of the holders hs
+unfoldable pub valuesAt : ℕ → ℕ → Polynomial → List ℕ → List ℕ
+unfolding value point
+valuesAt k d q [] = []
+valuesAt k d q (h ∷ hs) = value k d q (point d h) ++ valuesAt k d q hs
+
+width-append : (k : ℕ) (vs ws : List ℕ) → allInWidth k vs ≡ true → allInWidth k ws ≡ true → allInWidth k (vs ++ ws) ≡ true
+unfolding allInWidth
+width-append k [] ws e f = f
+width-append k (v ∷ vs) ws e f = and-both (inWidth k v) _ (and-left (inWidth k v) _ e) (width-append k vs ws (and-right (inWidth k v) _ e) f)
+
+module _ (k d : ℕ) (dl : 2 ≤ d) (dh : d ≤ 6) where
+  module _ (q : Polynomial) (rows : Rows d q) where
+    long : (h : ℕ) → length (value k d q (point d h)) ≡ d
+    long = share-length k d dl dh q rows
+
+    pub values-length : (hs : List ℕ) → length (valuesAt k d q hs) ≡ length hs * d
+    unfolding valuesAt
+    values-length [] = sym (zero-mul d)
+    values-length (h ∷ hs) = length-append (value k d q (point d h)) (valuesAt k d q hs) ∙ omega (arith, long h, values-length hs)
+
+    pub values-width : (hs : List ℕ) → allInWidth k (valuesAt k d q hs) ≡ true
+    unfolding valuesAt allInWidth
+    values-width [] = refl
+    values-width (h ∷ hs) =
+        width-append k (value k d q (point d h)) (valuesAt k d q hs) (value-element d dl dh k q rows (record { holder = h; words = [] }) .1) (values-width hs)
+
+    -- the first words are the first holder's
+    first : (h : ℕ) (hs : List ℕ) → take d (value k d q (point d h) ++ valuesAt k d q hs) ≡ value k d q (point d h)
+    first h hs = take-at (value k d q (point d h)) (valuesAt k d q hs) d (long h)
+
+    rest : (h : ℕ) (hs : List ℕ) → drop d (value k d q (point d h) ++ valuesAt k d q hs) ≡ valuesAt k d q hs
+    rest h hs = drop-at (value k d q (point d h)) (valuesAt k d q hs) d (long h)
+
+    -- of dealt shares, those of some holders
+    pub of-dealt : (n prev : ℕ) (hs : List ℕ) → risingTo n prev hs ≡ true → ofHolders d hs (dealtFrom k d q n 1) ≡ valuesAt k d q hs
+    unfolding ofHolders valuesAt risingTo
+    of-dealt n prev [] e = refl
+    of-dealt n prev (h ∷ hs) e =
+        let l : prev < h = ltb-true prev h (and-left (ltb prev h) _ e) in
+        let r = and-right (ltb prev h) _ e in
+        let m : h ≤ n = leb-true h n (and-left (leb h n) _ r) in
+        let f : 1 + (h - 1) ≡ h = omega arith in
+        ap₂ _++_ (share-at k d dl dh q rows n 1 (h - 1) (omega arith) ∙ ap (λ (i : ℕ). value k d q (point d i)) f)
+        (of-dealt n h hs (and-right (leb h n) _ r))
+
+    -- lent with changes, or without: the shares that differ are those that are changed
+    pub errors-changed : (hs ws : List ℕ) → errorSet k d q (lent d hs ws) ≡ changedSet (lent d hs (valuesAt k d q hs)) (lent d hs ws)
+    unfolding errorSet differs lent valuesAt changedSet
+    errors-changed [] ws = refl
+    errors-changed (h ∷ hs) ws =
+        ap₂ _+_
+        (ap (λ (v : Element). when (not (same (take d ws) v)) (2 ^ (h - 1))) (sym (first h hs)))
+        (errors-changed hs (drop d ws)
+        ∙ ap (λ (vs : List ℕ). changedSet (lent d hs vs) (lent d hs (drop d ws))) (sym (rest h hs)))
+
+    -- a call on each
+    pub each-value : (f : Element → Element) (r : Polynomial) → ((h : ℕ) → f (value k d q (point d h)) ≡ value k d r (point d h))
+        → (hs : List ℕ) → onEach f d (length hs) (valuesAt k d q hs) ≡ valuesAt k d r hs
+    unfolding onEach valuesAt
+    each-value f r e [] = refl
+    each-value f r e (h ∷ hs) =
+        ap₂ (λ (a : Element) (vs : List ℕ). f a ++ onEach f d (length hs) vs) (first h hs) (rest h hs)
+        ∙ ap₂ _++_ (e h) (each-value f r e hs)
+
+  pub multiple-values : (q : Polynomial) → Rows d q → (a : Element) → length a ≡ d → (hs : List ℕ)
+      → onEach (product k (lower d) a) d (length hs) (valuesAt k d q hs) ≡ valuesAt k d (multiple k d a q) hs
+  multiple-values q rows a l =
+      each-value q rows (product k (lower d) a) (multiple k d a q) (λ h. sym (value-multiple d dl dh k a l q rows (point d h) (length-point d h)))
+
+  pub sum-values : (q r : Polynomial) → Rows d q → Rows d r → length q ≡ length r → (hs : List ℕ)
+      → onPairs (sum k) d (length hs) (valuesAt k d q hs) (valuesAt k d r hs) ≡ valuesAt k d (sums k q r) hs
+  unfolding onPairs valuesAt
+  sum-values q r x y l [] = refl
+  sum-values q r x y l (h ∷ hs) =
+      ap₂ (λ (a : Element) (vs : List ℕ). sum k a (take d (value k d r (point d h) ++ valuesAt k d r hs)) ++ onPairs (sum k) d (length hs) vs (drop d (value k d r (point d h) ++ valuesAt k d r hs))) (first q x h hs) (rest q x h hs)
+      ∙ ap₂ (λ (b : Element) (vs : List ℕ). sum k (value k d q (point d h)) b ++ onPairs (sum k) d (length hs) (valuesAt k d q hs) vs) (first r y h hs) (rest r y h hs)
+      ∙ ap₂ _++_ (sym (value-sum d dl dh k q r x y l (point d h) (length-point d h))) (sum-values q r x y l hs)
+
+-- nothing is changed where nothing is
+pub changed-none : (ss : List Share) → changedSet ss ss ≡ 0
+unfolding changedSet
+changed-none [] = refl
+changed-none (s ∷ ss) = ap₂ (λ (b : Bool) (n : ℕ). when (not b) (2 ^ (s .holder - 1)) + n) (same-refl (s .words)) (changed-none ss)

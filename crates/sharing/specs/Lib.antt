@@ -1,0 +1,4 @@
+-- The definitions that the clauses of `src/` and the theorems of `proofs/` cite.
+pub mod Dealing
+pub mod Opening
+pub mod Lists

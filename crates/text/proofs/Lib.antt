@@ -1,0 +1,6 @@
+pub mod Written
+pub mod Decimal
+pub mod Holders
+pub mod Joined
+pub mod Lines
+pub mod Examples

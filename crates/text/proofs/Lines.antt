@@ -1,0 +1,148 @@
+-- The lines as the parts that are written one after another, and how long they are at most. Assumes nothing.
+use mathlib.Core.Path.{_≡_, refl, ap, _∙_}
+use mathlib.Core.Bool.{Bool, true, false, cond}
+use mathlib.Core.List.{List, [], _∷_, _++_, map, append-assoc}
+use Prim.Native.Nat.{ℕ, zero, suc, _+_, _-_, _*_, _/_, _%_, _^_, _≤_, _<_}
+use native.Mathlib.Nat.{pow-le-pow-right, le-trans}
+use native.Mathlib.Omega.{arith}
+use borrow.Author.Tests.{ltb-true}
+use lib.Dec.{ltb, eqb, lit<}
+use lib.ListN.{length, length-append}
+use Rattle.words.specs.declared.Signed.{Signed}
+use Rattle.words.specs.Signed.{signedOf}
+use Rattle.text.specs.Text.{ascii, decimal, signedText, afterCommas, joined, holdersFrom, holders, holdersText, wordsText}
+use Rattle.text.specs.Text.{lineRoom, headLine, refusedLine, jobLine, openLine, declinedLine}
+use Rattle.text.proofs.Decimal.{decimal-length}
+
+-- ---- the parts
+
+pub open-parts : (number wrong : ℕ) (words : List Signed)
+    → openLine number wrong words
+    ≡ decimal number ++ ascii " open " ++ holdersText wrong ++ ascii " " ++ wordsText words ++ ascii "\n"
+unfolding openLine jobLine
+open-parts number wrong words =
+    ap (λ (l : List ℕ). l ++ holdersText wrong ++ ascii " " ++ wordsText words ++ ascii "\n")
+    (append-assoc (decimal number ++ ascii " ") (ascii "open") (ascii " ") ∙ append-assoc (decimal number) (ascii " ") (ascii "open "))
+
+pub declined-parts : (number state : ℕ) → declinedLine number state ≡ decimal number ++ ascii " " ++ decimal state ++ ascii " - -\n"
+unfolding declinedLine jobLine joined
+declined-parts number state =
+    let l = decimal number ++ ascii " " ++ decimal state in
+    append-assoc (l ++ ascii " " ++ ascii "-" ++ ascii " ") (ascii "-") (ascii "\n")
+    ∙ append-assoc (l ++ ascii " " ++ ascii "-") (ascii " ") (ascii "-\n")
+    ∙ append-assoc (l ++ ascii " ") (ascii "-") (ascii " -\n")
+    ∙ append-assoc l (ascii " ") (ascii "- -\n")
+
+pub refused-parts : (n : ℕ) → refusedLine n ≡ ascii "refused " ++ decimal n ++ ascii "\n"
+unfolding refusedLine
+refused-parts n = refl
+
+-- ---- how long they are
+
+pub twenty : (x : ℕ) → x ≤ 2 ^ 64 → length (decimal x) ≤ 20
+twenty x h = decimal-length 19 x (omega arith)
+
+-- joined texts are no longer than those after commas, or a `-`
+joined-length : (texts : List (List ℕ)) → length (joined texts) ≤ length (afterCommas texts) + 1
+unfolding joined afterCommas
+joined-length [] = omega arith
+joined-length (text ∷ texts) = omega (arith, length-append text (afterCommas texts))
+
+holders-after : (i n set : ℕ) → i + n ≤ 100 → length (afterCommas (map decimal (holdersFrom i n set))) ≤ n * 3
+unfolding afterCommas holdersFrom
+holders-after i zero set h = omega arith
+holders-after i (suc n) set h = one (eqb (set % 2) 1) (holders-after (suc i) n (set / 2) (omega arith))
+  where
+    one : (b : Bool) → length (afterCommas (map decimal (holdersFrom (suc i) n (set / 2)))) ≤ n * 3
+        → length (afterCommas (map decimal (cond b (i ∷ []) [] ++ holdersFrom (suc i) n (set / 2)))) ≤ suc n * 3
+    one true r =
+        omega
+        (arith, r, decimal-length 1 i (omega arith), length-append (decimal i) (afterCommas (map decimal (holdersFrom (suc i) n (set / 2)))))
+    one false r = omega (arith, r)
+
+pub holders-length : (set : ℕ) → length (holdersText set) ≤ 193
+unfolding holders
+holders-length set = omega (arith, joined-length (map decimal (holders set)), holders-after 1 64 set (omega arith))
+
+-- no word of k bits has a larger magnitude than 2^k
+magnitude-le : (k w : ℕ) → signedOf k w .magnitude ≤ 2 ^ k
+unfolding signedOf
+magnitude-le k w = by (ltb w (2 ^ (k - 1))) refl
+  where
+    by : (b : Bool) → ltb w (2 ^ (k - 1)) ≡ b
+        → cond {A = Signed} b (record { negative = false; magnitude = w }) (record { negative = true; magnitude = 2 ^ k - w }) .magnitude ≤ 2 ^ k
+    by true e = omega (arith, ltb-true w (2 ^ (k - 1)) e, pow-le-pow-right {n = 2} (lit< tt) {i = k - 1} {j = k} (omega arith))
+    by false e = omega arith
+
+signed-length : (k w : ℕ) → k ≤ 64 → length (signedText (signedOf k w)) ≤ 21
+unfolding signedText
+signed-length k w h =
+    let s = signedOf k w in
+    let p : 2 ^ k ≤ 2 ^ 64 = pow-le-pow-right {n = 2} (lit< tt) {i = k} {j = 64} h in
+    omega (
+      arith,
+      length-append (cond (s .negative) (ascii "-") []) (decimal (s .magnitude)),
+      sign (s .negative),
+      twenty (s .magnitude) (le-trans (magnitude-le k w) p),
+    )
+  where
+    sign : (b : Bool) → length (cond b (ascii "-") []) ≤ 1
+    sign true = omega arith
+    sign false = omega arith
+
+words-after : (k : ℕ) (ws : List ℕ) → k ≤ 64 → length (afterCommas (map signedText (map (signedOf k) ws))) ≤ length ws * 22
+unfolding afterCommas
+words-after k [] h = omega arith
+words-after k (w ∷ ws) h =
+    omega
+    (arith, words-after k ws h, signed-length k w h, length-append (signedText (signedOf k w)) (afterCommas (map signedText (map (signedOf k) ws))))
+
+pub words-length : (k : ℕ) (ws : List ℕ) → k ≤ 64 → length ws ≤ 6 → length (wordsText (map (signedOf k) ws)) ≤ 133
+words-length k ws h l = omega (arith, joined-length (map signedText (map (signedOf k) ws)), words-after k ws h)
+
+-- every line fits into `lineRoom`
+pub open-length : (number wrong k : ℕ) (ws : List ℕ) → number < 2 ^ 64 → k ≤ 64 → length ws ≤ 6
+    → length (openLine number wrong (map (signedOf k) ws)) ≤ lineRoom
+open-length number wrong k ws h l m =
+    let n = decimal number in
+    let v = holdersText wrong in
+    let w = wordsText (map (signedOf k) ws) in
+    omega (
+      arith,
+      twenty number (omega arith),
+      holders-length wrong,
+      words-length k ws l m,
+      ap length (open-parts number wrong (map (signedOf k) ws)),
+      length-append n (ascii " open "),
+      length-append (n ++ ascii " open ") v,
+      length-append (n ++ ascii " open " ++ v) (ascii " "),
+      length-append (n ++ ascii " open " ++ v ++ ascii " ") w,
+      length-append (n ++ ascii " open " ++ v ++ ascii " " ++ w) (ascii "\n"),
+    )
+
+pub declined-length : (number state : ℕ) → number < 2 ^ 64 → state < 2 ^ 64 → length (declinedLine number state) ≤ lineRoom
+declined-length number state h k =
+    let n = decimal number in
+    let s = decimal state in
+    omega (
+      arith,
+      twenty number (omega arith),
+      twenty state (omega arith),
+      ap length (declined-parts number state),
+      length-append n (ascii " "),
+      length-append (n ++ ascii " ") s,
+      length-append (n ++ ascii " " ++ s) (ascii " - -\n"),
+    )
+
+pub refused-length : (n : ℕ) → n < 2 ^ 64 → length (refusedLine n) ≤ lineRoom
+refused-length n h =
+    omega (
+      arith,
+      twenty n (omega arith),
+      ap length (refused-parts n),
+      length-append (ascii "refused ") (decimal n),
+      length-append (ascii "refused " ++ decimal n) (ascii "\n"),
+    )
+
+pub head-length : length headLine ≤ lineRoom
+head-length = omega arith

@@ -1,0 +1,93 @@
+-- The text of the listing as bytes, paper 01, "The opened bundle". Assumes nothing.
+use Prim.Native.Nat.{ℕ, zero, suc, _+_, _/_, _%_}
+use Prim.Native.Char.{code}
+use Prim.Native.String.{String, [] as []ₛ, _∷_ as _∷ₛ_}
+use mathlib.Core.Bool.{cond}
+use mathlib.Core.List.{List, [], _∷_, _++_, map}
+use lib.Dec.{eqb}
+use lib.ListN.{length, take, drop}
+use Rattle.words.specs.declared.Signed.{Signed}
+use Rattle.words.specs.Signed.{signedOf}
+
+-- the bytes of an ASCII text
+abbrev pub ascii : String → List ℕ
+ascii []ₛ = []
+ascii (c ∷ₛ s) = code c ∷ ascii s
+
+-- a buffer with a text written over it from a position on
+abbrev pub written : ℕ → List ℕ → List ℕ → List ℕ
+written at text old = take at old ++ text ++ drop (at + length text) old
+
+-- "Numbers in this paper are decimal": the digits of a number, none of 0, and no more than n
+unfoldable pub digits : ℕ → ℕ → List ℕ
+digits zero x = []
+digits (suc n) zero = []
+digits (suc n) (suc x) = digits n (suc x / 10) ++ (48 + suc x % 10) ∷ []
+
+-- and a last digit in any case
+unfoldable pub decimal : ℕ → List ℕ
+unfolding digits
+decimal x = digits x (x / 10) ++ (48 + x % 10) ∷ []
+
+-- "the signed words": a minus sign before a negative value
+unfoldable pub signedText : Signed → List ℕ
+unfolding decimal
+signedText s = cond (s .negative) (ascii "-") [] ++ decimal (s .magnitude)
+
+-- "joined by commas, or `-`"
+unfoldable pub afterCommas : List (List ℕ) → List ℕ
+afterCommas [] = []
+afterCommas (text ∷ texts) = ascii "," ++ text ++ afterCommas texts
+
+unfoldable pub joined : List (List ℕ) → List ℕ
+unfolding afterCommas
+joined [] = ascii "-"
+joined (text ∷ texts) = text ++ afterCommas texts
+
+-- "a set held as a 64-bit number, bit i − 1 for holder i": the holders from i on, n of them, of a set whose lowest bit stands for i
+unfoldable pub holdersFrom : ℕ → ℕ → ℕ → List ℕ
+holdersFrom i zero set = []
+holdersFrom i (suc n) set = cond (eqb (set % 2) 1) (i ∷ []) [] ++ holdersFrom (suc i) n (set / 2)
+
+-- "wrong holders rising"
+unfoldable pub holders : ℕ → List ℕ
+unfolding holdersFrom
+holders set = holdersFrom 1 64 set
+
+abbrev pub holdersText : ℕ → List ℕ
+holdersText set = joined (map decimal (holders set))
+
+abbrev pub wordsText : List Signed → List ℕ
+wordsText words = joined (map signedText words)
+
+-- the signed readings of the first d words
+abbrev pub readings : ℕ → ℕ → List ℕ → List Signed
+readings k d words = map (signedOf k) (take d words)
+
+-- what every line fits into
+abbrev pub lineRoom : ℕ
+lineRoom = 400
+
+-- "The first is `job state wrong words`."
+abbrev pub headLine : List ℕ
+headLine = ascii "job state wrong words\n"
+
+-- "A declined bundle prints only `refused N`, N being the number."
+unfoldable pub refusedLine : ℕ → List ℕ
+unfolding decimal
+refusedLine n = ascii "refused " ++ decimal n ++ ascii "\n"
+
+-- "job number; `open` or the number 3, 5 or 6; wrong holders rising, joined by commas, or `-`; the signed words, joined by commas, or `-`"
+unfoldable pub jobLine : ℕ → List ℕ → List ℕ → List ℕ → List ℕ
+unfolding decimal
+jobLine number state wrong words = decimal number ++ ascii " " ++ state ++ ascii " " ++ wrong ++ ascii " " ++ words ++ ascii "\n"
+
+-- a job that opened: "10 open 3 -3,2"
+unfoldable pub openLine : ℕ → ℕ → List Signed → List ℕ
+unfolding decimal signedText joined holders jobLine
+openLine number wrong words = jobLine number (ascii "open") (holdersText wrong) (wordsText words)
+
+-- and one that did not, with `-` twice: "11 6 - -"
+unfoldable pub declinedLine : ℕ → ℕ → List ℕ
+unfolding decimal joined jobLine
+declinedLine number state = jobLine number (decimal state) (joined []) (joined [])

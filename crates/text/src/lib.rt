@@ -1,0 +1,149 @@
+// The text of the listing: each function writes its text into a lent buffer from `at` on, and gives the position after it.
+ghost use mathlib.Core.Path.{_≡_};
+ghost use mathlib.Core.Bool.{true};
+ghost use mathlib.Core.List.{[], _∷_};
+ghost use Prim.Native.Nat.{_+_, _≤_};
+ghost use lib.ListN.{length, take};
+ghost use Rattle.words.specs.Word.{allInWidth};
+ghost use Rattle.text.specs.Text.{written, decimal, signedText, holdersText, wordsText, readings};
+ghost use Rattle.text.specs.Text.{lineRoom, headLine, refusedLine, openLine, declinedLine};
+
+// Every line fits into so many bytes: the definition's lineRoom.
+pub const LINE: usize = 400;
+
+pub fn put_byte(out: &mut [u8], at: usize, b: u8) -> usize
+    requires { ⌜ at + 1 ≤ length (now out) ⌝ }
+    ensures { λ r. ⌜ (now (out .exit) ≡ written at (b ∷ []) (now (out .entry))) × (r ≡ at + 1) ⌝ }
+{
+    out[at] = b;
+    at + 1
+}
+
+pub fn put_bytes(out: &mut [u8], at: usize, s: &[u8]) -> usize
+    requires { ⌜ at + length (now s) ≤ length (now out) ⌝ }
+    ensures { λ r. ⌜ (now (out .exit) ≡ written at (now (s .entry)) (now (out .entry))) × (r ≡ at + length (now (s .entry))) ⌝ }
+{
+    let mut i = 0;
+    while i < s.len() {
+        out[at + i] = s[i];
+        i += 1;
+    }
+    at + s.len()
+}
+
+// The digits before the last one are those of a tenth of the number.
+pub fn put_decimal(out: &mut [u8], at: usize, x: u64) -> usize
+    requires { ⌜ at + length (decimal x) ≤ length (now out) ⌝ }
+    ensures { λ r. ⌜ (now (out .exit) ≡ written at (decimal x) (now (out .entry))) × (r ≡ at + length (decimal x)) ⌝ }
+{
+    if x < 10 {
+        return put_byte(out, at, 48 + x as u8);
+    }
+    let p = put_decimal(out, at, x / 10);
+    put_byte(out, p, 48 + (x % 10) as u8)
+}
+
+pub fn put_signed(out: &mut [u8], at: usize, s: words::Signed) -> usize
+    requires { ⌜ at + length (signedText s) ≤ length (now out) ⌝ }
+    ensures { λ r. ⌜ (now (out .exit) ≡ written at (signedText s) (now (out .entry))) × (r ≡ at + length (signedText s)) ⌝ }
+{
+    if s.negative {
+        let p = put_byte(out, at, b'-');
+        return put_decimal(out, p, s.magnitude);
+    }
+    put_decimal(out, at, s.magnitude)
+}
+
+// The holders of a set, rising, joined by commas: each turn writes the lowest one and takes it off.
+pub fn put_holders(out: &mut [u8], at: usize, set: u64) -> usize
+    requires { ⌜ at + length (holdersText set) ≤ length (now out) ⌝ }
+    ensures { λ r. ⌜ (now (out .exit) ≡ written at (holdersText set) (now (out .entry))) × (r ≡ at + length (holdersText set)) ⌝ }
+{
+    if set == 0 {
+        return put_byte(out, at, b'-');
+    }
+    let mut p = at;
+    let mut w = set;
+    let mut i: u64 = 0;
+    loop {
+        let z = u64::trailing_zeros(w) as u64;
+        i = i + z + 1;
+        w = (w >> z) >> 1;
+        p = put_decimal(out, p, i);
+        if w == 0 {
+            return p;
+        }
+        p = put_byte(out, p, b',');
+    }
+}
+
+// The first d words, each in its signed reading, joined by commas.
+pub fn put_words(out: &mut [u8], at: usize, k: u64, d: usize, words: [u64; 6]) -> usize
+    requires { ⌜ ((1 ≤ k) × (k ≤ 64)) × ((1 ≤ d) × (d ≤ 6)) × (allInWidth k (take d words) ≡ true)
+        × (at + length (wordsText (readings k d words)) ≤ length (now out)) ⌝ }
+    ensures { λ r. ⌜ (now (out .exit) ≡ written at (wordsText (readings k d words)) (now (out .entry)))
+        × (r ≡ at + length (wordsText (readings k d words))) ⌝ }
+{
+    let mut end = at;
+    let mut i = 0;
+    loop {
+        end = put_signed(out, end, words::read_signed(k, words[i]));
+        i += 1;
+        if i == d {
+            return end;
+        }
+        end = put_byte(out, end, b',');
+    }
+}
+
+// The first line of a listing.
+pub fn put_head(out: &mut [u8], at: usize) -> usize
+    requires { ⌜ at + lineRoom ≤ length (now out) ⌝ }
+    ensures { λ r. ⌜ (now (out .exit) ≡ written at headLine (now (out .entry))) × (r ≡ at + length headLine) ⌝ }
+{
+    put_bytes(out, at, b"job state wrong words\n")
+}
+
+// The one line of a declined bundle.
+pub fn put_refused(out: &mut [u8], at: usize, n: u8) -> usize
+    requires { ⌜ at + lineRoom ≤ length (now out) ⌝ }
+    ensures { λ r. ⌜ (now (out .exit) ≡ written at (refusedLine n) (now (out .entry))) × (r ≡ at + length (refusedLine n)) ⌝ }
+{
+    let p = put_bytes(out, at, b"refused ");
+    let q = put_decimal(out, p, n as u64);
+    put_byte(out, q, b'\n')
+}
+
+// The line of a job that opened.
+pub fn put_open_line(
+    out: &mut [u8],
+    at: usize,
+    number: u64,
+    wrong: u64,
+    k: u64,
+    d: usize,
+    words: [u64; 6],
+) -> usize
+    requires { ⌜ ((1 ≤ k) × (k ≤ 64)) × ((1 ≤ d) × (d ≤ 6)) × (allInWidth k (take d words) ≡ true) × (at + lineRoom ≤ length (now out)) ⌝ }
+    ensures { λ r. ⌜ (now (out .exit) ≡ written at (openLine number wrong (readings k d words)) (now (out .entry)))
+        × (r ≡ at + length (openLine number wrong (readings k d words))) ⌝ }
+{
+    let p = put_decimal(out, at, number);
+    let q = put_bytes(out, p, b" open ");
+    let r = put_holders(out, q, wrong);
+    let s = put_byte(out, r, b' ');
+    let t = put_words(out, s, k, d, words);
+    put_byte(out, t, b'\n')
+}
+
+// The line of a job that did not open, with the number that says why.
+pub fn put_declined_line(out: &mut [u8], at: usize, number: u64, state: u8) -> usize
+    requires { ⌜ at + lineRoom ≤ length (now out) ⌝ }
+    ensures { λ r. ⌜ (now (out .exit) ≡ written at (declinedLine number state) (now (out .entry)))
+        × (r ≡ at + length (declinedLine number state)) ⌝ }
+{
+    let p = put_decimal(out, at, number);
+    let q = put_byte(out, p, b' ');
+    let r = put_decimal(out, q, state as u64);
+    put_bytes(out, r, b" - -\n")
+}
