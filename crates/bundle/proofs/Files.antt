@@ -1,0 +1,219 @@
+-- Laws of a run of jobs, of a file, and of files one after another: where each stands, and the first fault. Assumes nothing.
+use mathlib.Core.Path.{_≡_, refl, sym, ap, ap₂, _∙_}
+use Prim.Native.Nat.{ℕ, zero, suc, _+_, _-_, _*_, _/_, _≤_, _<_}
+use native.Mathlib.Nat.{mul-le-mul-left, mul-le-mul-right, div-eq-of-eq-mul-left}
+use native.Mathlib.Omega.{arith}
+use native.Mathlib.Numerals.{add-one}
+use native.Mathlib.Decide.{decLe}
+use mathlib.Core.List.{List}
+use mathlib.Core.Bool.{true, false}
+use lib.ListN.{length}
+use lib.Dec.{ltb, eqb, lit<}
+use borrow.Author.Tests.{lt-ltb, le-ltb}
+use Rattle.words.specs.Refusal.{first, unless, firstOf}
+use Rattle.words.proofs.Refusal.{pass, stop, first-none, first-some, first-left, first-right, firstOf-more, firstOf-stop, firstOf-each, firstOf-zero}
+use Rattle.records.specs.Layout.{recordSize, headSize, jobLen, jobSize, fileSize, orderKind, orderLen, orderSize}
+use Rattle.records.specs.Record.{framed, headingOf}
+use Rattle.bundle.specs.Bundle.{numOf, headingFault, jobFaultAt, prevNum, jobFault, fileFaultAt, fileFault, placeAt, prevHolder, filesIn, when}
+use Rattle.bundle.specs.Bundle.{placeFault, filesFault, bundleFault, filesOf, checked, checkedFault}
+use Rattle.bundle.specs.declared.Checked.the-variants.{Files, Refused}
+use Rattle.records.proofs.Lengths.{head-low, file-low}
+use Rattle.records.proofs.Record.{Frame}
+use Rattle.bundle.proofs.Headings.{Same, same-file, HeadingOk, heading-ok, JobOk, job-ok}
+
+-- ---- a run of jobs
+
+-- a loop over jobs, at place p: where it stands
+pub record JobsAt (bs : List ℕ) (len base at p f q prev : ℕ) : Type 0 where
+  pub first-is : f ≡ base + p * recordSize len
+  pub at-is : q ≡ at + p * recordSize len
+  pub within : q ≤ length bs
+  pub prev-is : prev ≡ prevNum bs len at p
+  pub none : firstOf (jobFault bs len base at) p ≡ 0
+
+pub jobs-start : (bs : List ℕ) (len base at : ℕ) → at ≤ length bs → JobsAt bs len base at 0 base at 0
+unfolding firstOf prevNum
+jobs-start bs len base at h = record { first-is = omega arith; at-is = omega arith; within = h; prev-is = refl; none = refl }
+
+module _ (bs : List ℕ) (len base at p f q prev : ℕ) (j : JobsAt bs len base at p f q prev) where
+  pub jobs-here : jobFault bs len base at p ≡ jobFaultAt bs len f prev p q
+  unfolding jobFault
+  jobs-here = rw (j .first-is, j .at-is, j .prev-is)
+
+  pub jobs-stop : (n : ℕ) → (jobFaultAt bs len f prev p q ≡ 0 → ⊥) → p < n → jobFaultAt bs len f prev p q ≡ firstOf (jobFault bs len base at) n
+  jobs-stop n h l =
+      sym (firstOf-stop (jobFault bs len base at) p n (j .none) (λ e. h (sym jobs-here ∙ e)) l ∙ jobs-here)
+
+  pub jobs-next : jobFaultAt bs len f prev p q ≡ 0 →
+      JobsAt bs len base at (p + 1) (f + recordSize len) (q + recordSize len) (numOf bs q)
+  unfolding prevNum
+  jobs-next e =
+      record {
+        first-is = omega (arith, j .first-is);
+        at-is = omega (arith, j .at-is);
+        within = job-ok bs len f prev p q e .frame .within;
+        prev-is = rw (add-one, j .at-is);
+        none = rw add-one (firstOf-more (jobFault bs len base at) p (j .none) ∙ jobs-here ∙ e);
+      }
+
+-- ---- a file
+
+-- what a file with no fault says
+pub record FileOk (bs : List ℕ) (base prev at : ℕ) : Type 0 where
+  pub heading : HeadingOk bs base prev at
+  pub jobs : (p : ℕ) → p < headingOf bs at .jobs →
+      jobFault bs (jobLen (headingOf bs at)) (base + headSize (headingOf bs at)) (at + headSize (headingOf bs at)) p ≡ 0
+  pub within : at + fileSize (headingOf bs at) ≤ length bs
+
+-- a run of jobs with no fault is within the bytes
+run-within : (bs : List ℕ) (len base at n : ℕ) → at ≤ length bs → ((p : ℕ) → p < n → jobFault bs len base at p ≡ 0) → at + n * recordSize len ≤
+    length bs
+unfolding jobFault
+run-within bs len base at zero h f = omega arith
+run-within bs len base at (suc n) h f =
+    omega (arith, job-ok bs len (base + n * recordSize len) (prevNum bs len at n) n (at + n * recordSize len) (f n (omega arith)) .frame .within)
+
+pub file-ok : (bs : List ℕ) (base prev at : ℕ) → fileFaultAt bs base prev at ≡ 0 → FileOk bs base prev at
+unfolding fileFaultAt fileSize
+file-ok bs base prev at e =
+    let x = headingOf bs at in
+    let h = heading-ok bs base prev at (first-left (headingFault bs base prev at) _ e) in
+    let g = firstOf-each (jobFault bs (jobLen x) (base + headSize x) (at + headSize x)) (x .jobs) in
+    let z = first-right (headingFault bs base prev at) _ e in
+    record {
+      heading = h;
+      jobs = λ p l. g p z l;
+      within = omega (arith, run-within bs (jobLen x) (base + headSize x) (at + headSize x) (x .jobs) (h .frame .within) (λ p l. g p z l));
+    }
+
+-- the fault of bytes that should be one file, case by case
+module _ (bs : List ℕ) where
+  pub file-fault : (fileFaultAt bs 0 0 0 ≡ 0 → ⊥) → fileFault bs ≡ fileFaultAt bs 0 0 0
+  unfolding fileFault
+  file-fault n = first-some (fileFaultAt bs 0 0 0) _ n
+
+  pub file-end : fileFaultAt bs 0 0 0 ≡ 0 → fileFault bs ≡ unless (eqb (length bs) (fileSize (headingOf bs 0))) 7
+  unfolding fileFault
+  file-end e = first-none (fileFaultAt bs 0 0 0) _ e
+
+-- ---- files one after another
+
+-- a loop over files, at file f: where it stands
+pub record FilesAt (bs : List ℕ) (start f at prev : ℕ) : Type 0 where
+  pub at-is : at ≡ placeAt bs start f
+  pub within : at ≤ length bs
+  pub prev-is : prev ≡ prevHolder bs start f
+  pub none : firstOf (placeFault bs start) f ≡ 0
+
+module _ (bs : List ℕ) (start : ℕ) where
+  pub files-start : start ≤ length bs → FilesAt bs start 0 start 0
+  unfolding firstOf prevHolder placeAt
+  files-start h = record { at-is = omega arith; within = h; prev-is = refl; none = refl }
+
+  pub size-low : 7 ≤ fileSize (headingOf bs start)
+  size-low = omega (arith, head-low (headingOf bs start), file-low (headingOf bs start))
+
+  -- file f stands at byte f or later, no file before start, and each after the one before
+  pub place-low : (f : ℕ) → f ≤ placeAt bs start f
+  unfolding placeAt
+  place-low f =
+      let one : 1 ≤ fileSize (headingOf bs start) = omega (arith, size-low) in
+      omega (arith, mul-le-mul-left f one)
+
+  pub place-start : (f : ℕ) → start ≤ placeAt bs start f
+  unfolding placeAt
+  place-start f = omega arith
+
+  pub place-mono : (f g : ℕ) → f ≤ g → placeAt bs start f ≤ placeAt bs start g
+  unfolding placeAt
+  place-mono f g h = omega (arith, mul-le-mul-right (fileSize (headingOf bs start)) h)
+
+  pub place-next : (f g : ℕ) → f < g → placeAt bs start f + fileSize (headingOf bs start) ≤ placeAt bs start g
+  unfolding placeAt
+  place-next f g h = omega (arith, mul-le-mul-right (fileSize (headingOf bs start)) h)
+
+module _ (bs : List ℕ) (start f at prev : ℕ) (j : FilesAt bs start f at prev) where
+  module _ (l : at < length bs) where
+    pub files-here : placeFault bs start f ≡ fileFaultAt bs start prev at
+    unfolding placeFault
+    files-here =
+        let m : placeAt bs start f < length bs = omega (arith, j .at-is) in
+        rw (lt-ltb (placeAt bs start f) (length bs) m, j .at-is, j .prev-is)
+
+    pub files-stop : (fileFaultAt bs start prev at ≡ 0 → ⊥) → firstOf (placeFault bs start) (length bs) ≡ fileFaultAt bs start prev at
+    files-stop h =
+        firstOf-stop (placeFault bs start) f (length bs) (j .none) (λ e. h (sym files-here ∙ e)) (omega (arith, place-low bs start f, j .at-is))
+        ∙ files-here
+
+    pub files-next : fileFaultAt bs start prev at ≡ 0 →
+        FilesAt bs start (f + 1) (at + fileSize (headingOf bs at)) (headingOf bs at .holder)
+    unfolding placeAt prevHolder
+    files-next e =
+        let k = file-ok bs start prev at e in
+        let s : fileSize (headingOf bs start) ≡ fileSize (headingOf bs at) = same-file (headingOf bs start) (headingOf bs at) (k .heading .same) in
+        record {
+          at-is = omega (arith, j .at-is);
+          within = k .within;
+          prev-is = rw (add-one, j .at-is);
+          none = rw add-one (firstOf-more (placeFault bs start) f (j .none) ∙ files-here ∙ e);
+        }
+
+  module _ (l : length bs ≤ at) where
+    pub files-none : firstOf (placeFault bs start) (length bs) ≡ 0
+    unfolding placeFault
+    files-none =
+        firstOf-zero (placeFault bs start) (length bs)
+        (λ i h. elim (decLe (suc i) f) [
+          | yes m ↦ firstOf-each (placeFault bs start) f i (j .none) m
+          | no m ↦ (let b : length bs ≤ placeAt bs start i = omega (arith, place-mono bs start f i (omega arith), j .at-is) in
+              rw (le-ltb (placeAt bs start i) (length bs) b))
+        ])
+
+    pub files-count : filesIn bs start ≡ f
+    unfolding filesIn placeAt
+    files-count =
+        div-eq-of-eq-mul-left (omega (arith, size-low bs start)) (omega (arith, j .at-is, j .within))
+
+-- the fault of files one after another, and of a bundle, case by case
+module _ (bs : List ℕ) (start : ℕ) where
+  pub files-empty : length bs ≤ start → filesFault bs start ≡ 7
+  unfolding filesFault
+  files-empty h = stop (ltb start (length bs)) 7 _ (lit< tt) (le-ltb start (length bs) h)
+
+  pub files-some : start < length bs → filesFault bs start ≡ firstOf (placeFault bs start) (length bs)
+  unfolding filesFault
+  files-some h = pass (ltb start (length bs)) 7 _ (lt-ltb start (length bs) h)
+
+module _ (bs : List ℕ) where
+  pub bundle-order : framed bs orderKind orderLen 0 ≡ false → bundleFault bs ≡ 7
+  unfolding bundleFault
+  bundle-order e = stop (framed bs orderKind orderLen 0) 7 _ (lit< tt) e
+
+  pub bundle-files : framed bs orderKind orderLen 0 ≡ true → bundleFault bs ≡ filesFault bs orderSize
+  unfolding bundleFault
+  bundle-files o = pass (framed bs orderKind orderLen 0) 7 _ o
+
+-- the answer of a check, and its number
+pub checked-fault : (c n : ℕ) → checkedFault (checked c n) ≡ c
+unfolding checked checkedFault
+checked-fault zero n = refl
+checked-fault (suc c) n = refl
+
+pub checked-refused : (c n : ℕ) → (c ≡ 0 → ⊥) → checked c n ≡ Refused c
+unfolding checked
+checked-refused zero n z = absurd (z refl)
+checked-refused (suc c) n z = refl
+
+pub checked-files : (n : ℕ) → checked 0 n ≡ Files n
+unfolding checked
+checked-files n = refl
+
+pub files-are : (c m n : ℕ) → checked c m ≡ Files n → (c ≡ 0) × (n ≡ m)
+unfolding checked
+files-are zero m n q = (refl, (cc))
+files-are (suc c) m n q = absurd (let z : _≡_ {A = ℕ} 0 1 = cc in omega arith)
+
+pub refused-is : (c m r : ℕ) → checked c m ≡ Refused r → (c ≡ r) × (r ≡ 0 → ⊥)
+unfolding checked
+refused-is zero m r q = absurd (let z : _≡_ {A = ℕ} 0 1 = cc in omega arith)
+refused-is (suc c) m r q = (let z : suc c ≡ r = cc in (z, λ k. omega arith))

@@ -1,0 +1,4 @@
+pub mod Headings
+pub mod Files
+pub mod Accepted
+pub mod Contents

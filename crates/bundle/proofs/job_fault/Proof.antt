@@ -1,0 +1,100 @@
+-- `job_fault`: each return is a case of the job's fault. Assumes nothing.
+use mathlib.Core.Path.{_≡_, sym, ap, ap₂, _∙_}
+use Prim.Native.Nat.{ℕ, _+_, _*_, _≤_}
+use mathlib.Core.Bool.{true, false, _||_}
+use mathlib.Core.List.{List}
+use lib.ListN.{length}
+use lib.Dec.{eqb, ltb}
+use borrow.Author.Needs.{needs}
+use borrow.Author.Tests.{not-true, not-false, eq-eqb, ne-eqb}
+use native.Mathlib.Omega.{arith}
+use denote.Ref.{now}
+use Rattle.words.specs.Refusal.{unless}
+use Rattle.words.proofs.Refusal.{unless-yes, unless-no}
+use Rattle.records.specs.Layout.{recordSize, jobKind, bodyAt}
+use Rattle.records.specs.Record.{framed}
+use Rattle.bundle.specs.Bundle.{numOf, jobFaultAt}
+use Rattle.records.proofs.Lengths.{known-job-min}
+use Rattle.records.proofs.Record.{framed-frame}
+use Rattle.bundle.proofs.Headings.{job-7, job-low, job-8}
+use Rattle.bundle.proofs.job_fault.Statement.{statement}
+use Rattle.bundle.proofs.job_fault.Tie as tie
+
+abbrev bs : tie.Start → List ℕ
+bs s = now (s .args .bytes)
+
+is-record-requires : tie.Need-is-record-requires
+is-record-requires c κs = c .before .pre .0
+
+returns : tie.Need-returns
+returns c =
+    let a = c .before .before .before .args in
+    sym (job-7 (bs (c .before .before .before)) (a .len) (a .base) (a .prev) (a .p) (a .at)
+    (sym (c .before .is-record .ensures) ∙ not-true _ (c .if1 .taken)))
+
+framed-yes : (c : tie.Else1) → framed (bs (c .before .before .before)) jobKind (c .before .before .before .args .len)
+    (c .before .before .before .args .at) ≡ true
+framed-yes c = sym (c .before .is-record .ensures) ∙ not-false _ (c .if1 .left)
+
+-- the job number is within the bytes
+fits : (c : tie.Else1) → bodyAt (c .before .before .before .args .at) + 8 ≤ length (bs (c .before .before .before))
+unfolding recordSize
+fits c =
+    omega (
+      arith,
+      framed-frame (bs (c .before .before .before)) jobKind (c .before .before .before .args .len) (c .before .before .before .args .at)
+          (framed-yes c) .within,
+      known-job-min (c .before .before .before .args .len) (c .before .before .before .pre .0),
+    )
+
+add-number : tie.Need-add-number
+add-number c = search needs
+
+number-requires : tie.Need-number-requires
+number-requires c κs = omega (arith, fits c)
+
+rises-requires : tie.Need-rises-requires
+rises-requires c κs = search needs
+
+num-is : (c : tie.After-number) → c .number .result ≡ numOf (bs (c .before .before .before .before)) (c .before .before .before .before .args .at)
+unfolding numOf
+num-is c = c .number .ensures
+
+rises-is : (c : tie.After-rises) → (eqb (c .before .before .before .before .before .args .p) 0 || ltb
+    (c .before .before .before .before .before .args .prev) (numOf (bs (c .before .before .before .before .before))
+    (c .before .before .before .before .before .args .at))) ≡ c .rises .result
+rises-is c = ap (λ (x : ℕ). eqb (c .before .before .before .before .before .args .p) 0 || ltb
+    (c .before .before .before .before .before .args .prev) x) (sym (num-is (c .before))) ∙ sym (c .rises .ensures)
+
+returns-2 : tie.Need-returns-2
+returns-2 c =
+    let a = c .before .before .before .before .before .before .args in
+    sym (job-low (bs (c .before .before .before .before .before .before)) (a .len) (a .base) (a .prev) (a .p) (a .at)
+    (framed-yes (c .before .before .before)) (rises-is (c .before) ∙ not-true _ (c .if2 .taken)))
+
+add-number-2 : tie.Need-add-number-2
+add-number-2 c = search needs
+
+number-requires-2 : tie.Need-number-requires-2
+number-requires-2 c κs = omega (arith, fits (c .before .before .before), c .before .before .before .before .before .before .pre)
+
+last : (c : tie.After-number2) → let a = c .before .before .before .before .before .before .before .args in
+    jobFaultAt (bs (c .before .before .before .before .before .before .before)) (a .len) (a .base) (a .prev) (a .p) (a .at) ≡ unless
+    (eqb (c .number2 .result) (c .before .before .before .number .result)) 8
+unfolding numOf
+last c =
+    let a = c .before .before .before .before .before .before .before .args in
+    job-8 (bs (c .before .before .before .before .before .before .before)) (a .len) (a .base) (a .prev) (a .p) (a .at)
+    (framed-yes (c .before .before .before .before)) (rises-is (c .before .before) ∙ not-false _ (c .before .if2 .left))
+    ∙ ap₂ (λ (x y : ℕ). unless (eqb x y) 8) (sym (c .number2 .ensures)) (sym (num-is (c .before .before .before)))
+
+returns-3 : tie.Need-returns-3
+returns-3 c = sym (last (c .before) ∙ unless-no _ 8 (ne-eqb _ _ (c .if3 .taken)))
+
+returns-4 : tie.Need-returns-4
+returns-4 c = sym (last (c .before) ∙ unless-yes _ 8 (eq-eqb _ _ (c .if3 .left)))
+
+pub job-fault-spec : {M : Type 1} → statement M
+job-fault-spec =
+    tie.close
+    (tie.spec is-record-requires returns add-number number-requires rises-requires returns-2 add-number-2 number-requires-2 returns-3 returns-4)

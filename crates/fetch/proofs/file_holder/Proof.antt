@@ -1,0 +1,42 @@
+-- `file_holder`: the file is within the bytes of an accepted bundle. Assumes nothing.
+use mathlib.Core.Path.{_≡_, sym, ap, _∙_}
+use Prim.Native.Nat.{ℕ, _+_, _*_, _≤_}
+use mathlib.Core.List.{List}
+use native.Mathlib.Omega.{arith}
+use lib.ListN.{length}
+use denote.Ref.{now}
+use Rattle.records.specs.Layout.{headSize}
+use Rattle.records.specs.Record.{headingOf}
+use Rattle.bundle.specs.Bundle.{fileAt}
+use Rattle.records.specs.declared.Heading.{Heading}
+use Rattle.bundle.proofs.Accepted.{Accepted, accepted, bundle-ranges, heading-within, file-place, file-few}
+use Rattle.fetch.proofs.file_holder.Statement.{statement}
+use Rattle.fetch.proofs.file_holder.Tie as tie
+
+abbrev bs : tie.Start → List ℕ
+bs s = now (s .args .bytes)
+
+whole : (s : tie.Start) → Accepted (bs s)
+whole s = accepted (bs s) (s .pre .0)
+
+file-at-requires : tie.Need-file-at-requires
+file-at-requires c κs =
+    let s = c .before in
+    let r = bundle-ranges (bs s) (whole s) in
+    rw (s .pre .1) (r .book .d-high, r .jobs-high, file-few (bs s) (whole s) (s .args .f) (s .pre .2))
+
+place : (c : tie.After-file-at) → c .file-at .result ≡ fileAt (bs (c .before .before)) (c .before .before .args .f)
+place c = c .file-at .ensures ∙ sym (file-place (bs (c .before .before)) (whole (c .before .before)) (c .before .before .args .h)
+    (c .before .before .args .f) (c .before .before .pre .1))
+
+heading-at-requires : tie.Need-heading-at-requires
+heading-at-requires c κs = rw (place c) (heading-within (bs (c .before .before)) (whole (c .before .before)) (c .before .before .args .f)
+    (c .before .before .pre .2))
+
+returns : tie.Need-returns
+returns c =
+    ap (λ (h : Heading). h .holder) (c .heading-at .ensures)
+    ∙ ap (λ (at : ℕ). headingOf (bs (c .before .before .before)) at .holder) (place (c .before))
+
+pub file-holder-spec : {M : Type 1} → statement M
+file-holder-spec = tie.close (tie.spec file-at-requires heading-at-requires returns)

@@ -1,0 +1,3 @@
+pub mod Num
+pub mod Lengths
+pub mod Record

@@ -1,0 +1,3 @@
+pub mod Num
+pub mod Layout
+pub mod Record

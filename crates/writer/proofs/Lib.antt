@@ -1,0 +1,10 @@
+pub mod Encode
+pub mod Holds
+pub mod Fits
+pub mod Decode
+pub mod Whole
+pub mod Put
+pub mod Calls
+pub mod Undo
+pub mod Shift
+pub mod Orders
