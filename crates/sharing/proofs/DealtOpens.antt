@@ -35,17 +35,19 @@ use Rattle.sharing.proofs.Values.{valuesAt, values-length, values-width
 elements-are : (k d n : ℕ) (ws : List ℕ) → n * d ≤ length ws → allInWidth k ws ≡ true → All (IsElement k d) (elementsOf d n ws)
 unfolding elementsOf
 elements-are k d zero ws l e = tt
-elements-are k d (suc n) ws l e =
-    ((length-take-le d ws (omega arith), width-take k d ws e),
-      elements-are k d n (drop d ws) (rw (length-drop d ws) (omega arith)) (width-drop k d ws e))
+elements-are k d (suc n) ws l e = (
+  (length-take-le d ws (omega arith), width-take k d ws e),
+  elements-are k d n (drop d ws) (rw (length-drop d ws) (omega arith)) (width-drop k d ws e),
+)
 
 pub dealing-poly : (p : Params) (secret coefficients : List ℕ) (n : ℕ) → dealFault p secret coefficients n ≡ 0
     → IsPoly (p .k) (p .d) (p .t) (dealing p secret coefficients)
 unfolding dealing
 dealing-poly p s c n e =
-    let k = deal-clear p s c n e in
-    (ap suc (elements-length (p .d) (p .t) c),
-      ((k .secret-length, k .secret-width), elements-are (p .k) (p .d) (p .t) c (omega (arith, k .coefficients-length)) (k .coefficients-width)))
+    let k = deal-clear p s c n e in (
+      ap suc (elements-length (p .d) (p .t) c),
+      ((k .secret-length, k .secret-width), elements-are (p .k) (p .d) (p .t) c (omega (arith, k .coefficients-length)) (k .coefficients-width)),
+    )
 
 -- Shares present at an opening: of holders that rise from 1 to n, at least t + 1 + 2e, into an output of d words.
 pub record Present (p : Params) (hs : List ℕ) (e n : ℕ) : Type 0 where
@@ -95,8 +97,8 @@ module _ (p : Params) (range : InRange p) (hs : List ℕ) where
         q = sums (p .k) (g .q) (h .q);
         poly = sums-is-poly (p .k) (p .d) (p .t) (g .q) (h .q) (g .poly) (h .poly);
         values =
-          ap₂ (sumsOf p hs) (g .values) (h .values)
-          ∙ sum-values (p .k) (p .d) (range .d-low) (range .d-high) (g .q) (h .q) (rows g) (rows h) (g .poly .0 ∙ sym (h .poly .0)) hs;
+            ap₂ (sumsOf p hs) (g .values) (h .values)
+            ∙ sum-values (p .k) (p .d) (range .d-low) (range .d-high) (g .q) (h .q) (rows g) (rows h) (g .poly .0 ∙ sym (h .poly .0)) hs;
         free-term = heads (g .q) (h .q) (g .poly .0) (h .poly .0) ∙ ap₂ (sum (p .k)) (g .free-term) (h .free-term);
       }
     where
@@ -112,8 +114,8 @@ module _ (p : Params) (range : InRange p) (hs : List ℕ) where
         q = multiple (p .k) (p .d) c (g .q);
         poly = multiple-is-poly (p .d) (range .d-low) (range .d-high) (p .k) (p .t) c l (g .q) (g .poly);
         values =
-          ap (multiplesOf p hs c) (g .values)
-          ∙ multiple-values (p .k) (p .d) (range .d-low) (range .d-high) (g .q) (rows g) c l hs;
+            ap (multiplesOf p hs c) (g .values)
+            ∙ multiple-values (p .k) (p .d) (range .d-low) (range .d-high) (g .q) (rows g) c l hs;
         free-term = heads (g .q) (g .poly .0) ∙ ap (product (p .k) (lower (p .d)) c) (g .free-term);
       }
     where

@@ -38,10 +38,11 @@ unfolding lent risingTo
 lent-above d n prev [] ws e = tt
 lent-above d n prev (h ∷ hs) ws e =
     let l : prev < h = ltb-true prev h (and-left (ltb prev h) _ e) in
-    let r = and-right (ltb prev h) _ e in
-    ((l, leb-true h n (and-left (leb h n) _ r)),
+    let r = and-right (ltb prev h) _ e in (
+      (l, leb-true h n (and-left (leb h n) _ r)),
       all-map (λ (s : Share) (x : (h < s .holder) × (s .holder ≤ n)). (omega (arith, x .0), x .1)) (lent d hs (drop d ws))
-          (lent-above d n h hs (drop d ws) (and-right (leb h n) _ r)))
+          (lent-above d n h hs (drop d ws) (and-right (leb h n) _ r)),
+    )
 
 pub lent-rising : (d n prev : ℕ) (hs ws : List ℕ) → risingTo n prev hs ≡ true → Rising (lent d hs ws)
 unfolding lent risingTo
@@ -51,9 +52,10 @@ lent-rising d n prev (h ∷ hs) ws e =
     (all-map (λ (s : Share) (x : (h < s .holder) × (s .holder ≤ n)). x .0) (lent d hs (drop d ws)) (lent-above d n h hs (drop d ws) r), lent-rising d n h hs (drop d ws) r)
 
 pub lent-holders : (d n : ℕ) (hs ws : List ℕ) → n < 2 ^ d → risingTo n 0 hs ≡ true → Holders d (lent d hs ws)
-lent-holders d n hs ws l e =
-    (all-map (λ (s : Share) (x : (0 < s .holder) × (s .holder ≤ n)). (x .0, omega (arith, x .1))) (lent d hs ws) (lent-above d n 0 hs ws e),
-      rising-different (lent d hs ws) (lent-rising d n 0 hs ws e))
+lent-holders d n hs ws l e = (
+  all-map (λ (s : Share) (x : (0 < s .holder) × (s .holder ≤ n)). (x .0, omega (arith, x .1))) (lent d hs ws) (lent-above d n 0 hs ws e),
+  rising-different (lent d hs ws) (lent-rising d n 0 hs ws e),
+)
 
 -- the holder at i decides, or the rest does
 pub rising-low : (n prev : ℕ) (hs : List ℕ) (i : ℕ) → i < length hs → getD hs i 0 ≤ prev → risingTo n prev (drop i hs) ≡ false
@@ -109,9 +111,10 @@ width-drop k (suc n) (w ∷ ws) e = width-drop k n ws (and-right (inWidth k w) _
 pub lent-width : (k d : ℕ) (hs ws : List ℕ) → length ws ≡ length hs * d → allInWidth k ws ≡ true → InWidth k d (lent d hs ws)
 unfolding lent
 lent-width k d [] ws l e = tt
-lent-width k d (h ∷ hs) ws l e =
-    ((length-take-le d ws (omega arith), width-take k d ws e),
-      lent-width k d hs (drop d ws) (length-drop d ws ∙ omega arith) (width-drop k d ws e))
+lent-width k d (h ∷ hs) ws l e = (
+  (length-take-le d ws (omega arith), width-take k d ws e),
+  lent-width k d hs (drop d ws) (length-drop d ws ∙ omega arith) (width-drop k d ws e),
+)
 
 -- lent shares with no fault so far
 pub record LentClear (p : Params) (hs ws : List ℕ) (n : ℕ) : Type 0 where

@@ -14,7 +14,6 @@ ghost use Rattle.level.specs.Shares.{sharesOf};
 ghost use Rattle.decoder.specs.Decoded.{Ordered};
 ghost use Rattle.sharing.specs.Dealing.{elementsOf, dealtFrom, dealt, dealFault};
 ghost use Rattle.sharing.specs.Opening.{faultOf, wrongOf, wordsOf, answerTo, risingTo, lentFault, opening};
-
 use level::Level;
 
 // The fault of dealing into an output of length n.
@@ -59,9 +58,7 @@ fn dealing(d: usize, t: usize, secret: &[u64], coefficients: &[u64]) -> [[u64; 6
 
 // The shares of holders 1 to n: the values of the polynomial of the first t + 1 rows at their points.
 fn write_shares(p: words::Params, q: [[u64; 6]; 64], out: &mut [u64])
-    requires {
-        ⌜ ((1 ≤ p .k) × (p .k ≤ 64)) × ((2 ≤ p .d) × (p .d ≤ 6)) × ((p .n ≤ 63) × (p .t ≤ 62)) × (length (now out) ≡ p .n * p .d) ⌝
-    }
+    requires { ⌜ ((1 ≤ p .k) × (p .k ≤ 64)) × ((2 ≤ p .d) × (p .d ≤ 6)) × ((p .n ≤ 63) × (p .t ≤ 62)) × (length (now out) ≡ p .n * p .d) ⌝ }
     ensures { λ _. ⌜ now (out .exit) ≡ dealtFrom (p .k) (p .d) (coefs (p .d) (suc (p .t)) q) (p .n) 1 ⌝ }
 {
     let low = ring::lower_of(p.d);
@@ -75,11 +72,9 @@ fn write_shares(p: words::Params, q: [[u64; 6]; 64], out: &mut [u64])
 
 // A job, the secret, dealt to n holders with t further coefficients, which the caller draws at random: the shares one after another.
 pub fn deal(p: words::Params, secret: &[u64], coefficients: &[u64], out: &mut [u64]) -> u8
-    ensures {
-        λ r. ⌜ (r ≡ dealFault p (now (secret .entry)) (now (coefficients .entry)) (length (now (out .entry))))
-            × (now (out .exit) ≡ kept (dealFault p (now (secret .entry)) (now (coefficients .entry)) (length (now (out .entry))))
-                (now (out .entry)) (dealt p (now (secret .entry)) (now (coefficients .entry)))) ⌝
-    }
+    ensures { λ r. ⌜ (r ≡ dealFault p (now (secret .entry)) (now (coefficients .entry)) (length (now (out .entry))))
+        × (now (out .exit) ≡ kept (dealFault p (now (secret .entry)) (now (coefficients .entry)) (length (now (out .entry))))
+        (now (out .entry)) (dealt p (now (secret .entry)) (now (coefficients .entry)))) ⌝ }
 {
     let fault = deal_fault(p, secret, coefficients, out.len());
     if fault != 0 {
@@ -171,16 +166,18 @@ pub struct Answer {
 }
 
 // The answer to m shares in arrays, with the error bound e.
-pub fn answer_to(p: words::Params, m: usize, holders: [u64; 63], shares: [[u64; 6]; 63], e: u64) -> Answer
-    requires {
-        ⌜ (paramsOk p ≡ true) × (m ≤ 63) × Ordered (p .n) (sharesOf (p .d) m holders shares)
-            × InWidth (p .k) (p .d) (sharesOf (p .d) m holders shares) ⌝
-    }
-    ensures {
-        λ r. ⌜ (r .fault ≡ faultOf (answerTo p e (sharesOf (p .d) m holders shares)))
-            × (r .wrong ≡ wrongOf (answerTo p e (sharesOf (p .d) m holders shares)))
-            × (r .words ≡ held (p .d) (wordsOf (zeroE (p .d)) (answerTo p e (sharesOf (p .d) m holders shares)))) ⌝
-    }
+pub fn answer_to(
+    p: words::Params,
+    m: usize,
+    holders: [u64; 63],
+    shares: [[u64; 6]; 63],
+    e: u64,
+) -> Answer
+    requires { ⌜ (paramsOk p ≡ true) × (m ≤ 63) × Ordered (p .n) (sharesOf (p .d) m holders shares)
+        × InWidth (p .k) (p .d) (sharesOf (p .d) m holders shares) ⌝ }
+    ensures { λ r. ⌜ (r .fault ≡ faultOf (answerTo p e (sharesOf (p .d) m holders shares)))
+        × (r .wrong ≡ wrongOf (answerTo p e (sharesOf (p .d) m holders shares)))
+        × (r .words ≡ held (p .d) (wordsOf (zeroE (p .d)) (answerTo p e (sharesOf (p .d) m holders shares)))) ⌝ }
 {
     if m <= p.t {
         return Answer {
@@ -219,13 +216,17 @@ pub struct Opened {
 }
 
 // A job opened from lent shares: d words for each lent holder, and at most e of the shares wrong. The job's words go to the output.
-pub fn open_shares(p: words::Params, holders: &[u64], shares: &[u64], e: u64, out: &mut [u64]) -> Opened
-    ensures {
-        λ r. ⌜ (r .fault ≡ faultOf (opening p (now (holders .entry)) (now (shares .entry)) e (length (now (out .entry)))))
-            × (r .wrong ≡ wrongOf (opening p (now (holders .entry)) (now (shares .entry)) e (length (now (out .entry)))))
-            × (now (out .exit)
-                ≡ wordsOf (now (out .entry)) (opening p (now (holders .entry)) (now (shares .entry)) e (length (now (out .entry))))) ⌝
-    }
+pub fn open_shares(
+    p: words::Params,
+    holders: &[u64],
+    shares: &[u64],
+    e: u64,
+    out: &mut [u64],
+) -> Opened
+    ensures { λ r. ⌜ (r .fault ≡ faultOf (opening p (now (holders .entry)) (now (shares .entry)) e (length (now (out .entry)))))
+        × (r .wrong ≡ wrongOf (opening p (now (holders .entry)) (now (shares .entry)) e (length (now (out .entry)))))
+        × (now (out .exit)
+        ≡ wordsOf (now (out .entry)) (opening p (now (holders .entry)) (now (shares .entry)) e (length (now (out .entry))))) ⌝ }
 {
     let fault = lent_fault(p, holders, shares, out.len());
     if fault != 0 {

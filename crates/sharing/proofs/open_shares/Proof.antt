@@ -93,10 +93,12 @@ answer-to-requires c κs =
     let s = S (c .before .before) in
     let k = known (c .before .before) in
     let hs = s .args .holders .now in
-    let ws = s .args .shares .now in
-    (range-ok (s .args .p) (k .range), few (c .before .before),
+    let ws = s .args .shares .now in (
+      range-ok (s .args .p) (k .range),
+      few (c .before .before),
       rw (same c) (lent-above (s .args .p .d) (s .args .p .n) 0 hs ws (k .rising), lent-rising (s .args .p .d) (s .args .p .n) 0 hs ws (k .rising)),
-      rw (same c) (clear-width (s .args .p) hs ws (length (s .args .out .now)) k))
+      rw (same c) (clear-width (s .args .p) hs ws (length (s .args .out .now)) k),
+    )
 
 -- src/lib.rt:258:9
 returns-2 : tie.Need-returns-2
@@ -132,11 +134,13 @@ returns-3 c =
     let ss = sharesOf d (length (s .args .holders .now)) (l .before .load-holders .result) (l .load-shares .result) in
     let z : faultOf (answerTo (s .args .p) (s .args .e) ss) ≡ 0 = sym (e .0) ∙ c .before .before .before .before .before .if2 .left in
     let g = given (s .args .p) (s .args .e) ss z in
-    let o = answered l in
-    (sym (ap faultOf o ∙ z), e .1 ∙ ap wrongOf (sym o),
+    let o = answered l in (
+      sym (ap faultOf o ∙ z),
+      e .1 ∙ ap wrongOf (sym o),
       c .before .before .store .ensures
           ∙ stored d (s .args .out .now) (a .answer-to .result .words) (g .words) (k .out-length) (e .2 ∙ ap (λ (x : Opening). held d (wordsOf (zeroE d) x)) (g .is)) (g .long)
-          ∙ sym (ap (wordsOf (s .args .out .now)) (o ∙ g .is)))
+          ∙ sym (ap (wordsOf (s .args .out .now)) (o ∙ g .is)),
+    )
 
 pub open-shares-spec : {M : Type 1} → statement M
 open-shares-spec =

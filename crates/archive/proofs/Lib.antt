@@ -1,0 +1,10 @@
+pub mod Values
+pub mod Accepted
+pub mod Runs
+pub mod Faults
+pub mod Loaded
+pub mod Present
+pub mod Names
+pub mod Opens
+pub mod Sums
+pub mod Totals

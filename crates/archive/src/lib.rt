@@ -1,0 +1,303 @@
+// Calls on a bundle: opening the job at a place, the total of a holder's file over a run, opening a run. Each first reads the whole bundle.
+ghost use mathlib.Core.Path.{_≡_};
+ghost use mathlib.Core.List.{_++_};
+ghost use Prim.Native.Nat.{_+_, _-_, _*_, _≤_, _<_};
+ghost use lib.ListN.{length, take, drop, replicate};
+ghost use Rattle.words.specs.Refusal.{kept};
+ghost use Rattle.ring.specs.Element.{zeroE, held};
+ghost use Rattle.sharing.specs.Opening.{faultOf, wrongOf, wordsOf as outputOf};
+ghost use Rattle.bundle.specs.Bundle.{bundleFault, bundleHeading, filesOf};
+ghost use Rattle.bundle.specs.Contents.{wordsOf};
+ghost use Rattle.archive.specs.Archive.{allowanceOf, holderOf, valuesFrom, runTotal, runInWidth, filesInWidth, placeOpening, runOpening};
+ghost use Rattle.archive.specs.Archive.{openPlace, openRun, fileTotalFault, totalFault, totalWords};
+use records::Heading;
+use sharing::Answer;
+use sharing::Opened;
+
+// The order's error bound.
+fn allowance(bytes: &[u8]) -> u64
+    requires { ⌜ bundleFault (now bytes) ≡ 0 ⌝ }
+    ensures { λ r. ⌜ r ≡ allowanceOf (now (bytes .entry)) ⌝ }
+{
+    records::number(bytes, records::PREFIX_SIZE, 1)
+}
+
+// Whether the words of file f are in width at the places a to b - 1.
+fn run_in_width(bytes: &[u8], h: Heading, f: usize, a: usize, b: usize) -> bool
+    requires { ⌜ (bundleFault (now bytes) ≡ 0) × (h ≡ bundleHeading (now bytes)) × (f < filesOf (now bytes)) × (a ≤ b) × (b ≤ h .jobs) ⌝ }
+    ensures { λ r. ⌜ r ≡ runInWidth (now (bytes .entry)) f a (b - a) ⌝ }
+{
+    let mut p = a;
+    while p < b {
+        let job = fetch::job_words(bytes, h, f, p);
+        if !words::all_in_width(h.params.k, &job) {
+            return false;
+        }
+        p += 1;
+    }
+    true
+}
+
+// The same of all files.
+fn files_in_width(bytes: &[u8], h: Heading, files: usize, a: usize, b: usize) -> bool
+    requires { ⌜ (bundleFault (now bytes) ≡ 0) × (h ≡ bundleHeading (now bytes)) × (files ≡ filesOf (now bytes)) × (a ≤ b) × (b ≤ h .jobs) ⌝ }
+    ensures { λ r. ⌜ r ≡ filesInWidth (now (bytes .entry)) a (b - a) ⌝ }
+{
+    let mut f: usize = 0;
+    while f < files {
+        if !run_in_width(bytes, h, f, a, b) {
+            return false;
+        }
+        f += 1;
+    }
+    true
+}
+
+// The sum of the words of file f at the places a to b - 1.
+fn run_total(bytes: &[u8], h: Heading, f: usize, a: usize, b: usize) -> [u64; 6]
+    requires { ⌜ (bundleFault (now bytes) ≡ 0) × (h ≡ bundleHeading (now bytes)) × (f < filesOf (now bytes)) × (a ≤ b) × (b ≤ h .jobs) ⌝ }
+    ensures { λ r. ⌜ r ≡ held (h .params .d) (runTotal (now (bytes .entry)) f a (b - a)) ⌝ }
+{
+    let mut r = [0u64; 6];
+    let mut p = a;
+    while p < b {
+        let w = fetch::job_words(bytes, h, f, p);
+        let s = ring::sum(h.params.k, r, w);
+        r = s;
+        p += 1;
+    }
+    r
+}
+
+// The holders of all files.
+fn load_holders(bytes: &[u8], h: Heading, files: usize) -> [u64; 63]
+    requires { ⌜ (bundleFault (now bytes) ≡ 0) × (h ≡ bundleHeading (now bytes)) × (files ≡ filesOf (now bytes)) ⌝ }
+    ensures { λ r. ⌜ r ≡ valuesFrom (holderOf (now (bytes .entry))) 0 files ++ drop files (replicate 63 0) ⌝ }
+{
+    let mut holders = [0u64; 63];
+    let mut f: usize = 0;
+    while f < files {
+        holders[f] = fetch::file_holder(bytes, h, f) as u64;
+        f += 1;
+    }
+    holders
+}
+
+// The words of the job at a place in each file.
+fn load_place(bytes: &[u8], h: Heading, files: usize, place: usize) -> [[u64; 6]; 63]
+    requires { ⌜ (bundleFault (now bytes) ≡ 0) × (h ≡ bundleHeading (now bytes)) × (files ≡ filesOf (now bytes)) × (place < h .jobs) ⌝ }
+    ensures { λ r. ⌜ r
+        ≡ valuesFrom (λ f. held (h .params .d) (wordsOf (now (bytes .entry)) f place)) 0 files ++ drop files (replicate 63 (replicate 6 0)) ⌝ }
+{
+    let mut shares = [[0u64; 6]; 63];
+    let mut f: usize = 0;
+    while f < files {
+        shares[f] = fetch::job_words(bytes, h, f, place);
+        f += 1;
+    }
+    shares
+}
+
+// The total of each file over the places a to b - 1.
+fn load_run(bytes: &[u8], h: Heading, files: usize, a: usize, b: usize) -> [[u64; 6]; 63]
+    requires { ⌜ (bundleFault (now bytes) ≡ 0) × (h ≡ bundleHeading (now bytes)) × (files ≡ filesOf (now bytes)) × (a ≤ b) × (b ≤ h .jobs) ⌝ }
+    ensures { λ r. ⌜ r
+        ≡ valuesFrom (λ f. held (h .params .d) (runTotal (now (bytes .entry)) f a (b - a))) 0 files ++ drop files (replicate 63 (replicate 6 0)) ⌝ }
+{
+    let mut shares = [[0u64; 6]; 63];
+    let mut f: usize = 0;
+    while f < files {
+        shares[f] = run_total(bytes, h, f, a, b);
+        f += 1;
+    }
+    shares
+}
+
+// The total of file f of an accepted bundle over a run.
+fn file_total(bytes: &[u8], h: Heading, f: usize, a: usize, b: usize, out: &mut [u64]) -> u8
+    requires { ⌜ (bundleFault (now bytes) ≡ 0) × (h ≡ bundleHeading (now bytes)) × (f < filesOf (now bytes)) ⌝ }
+    ensures { λ r. ⌜ (r ≡ fileTotalFault (now (bytes .entry)) f a b (length (now (out .entry))))
+        × (now (out .exit) ≡ kept (fileTotalFault (now (bytes .entry)) f a b (length (now (out .entry))))
+        (now (out .entry)) (runTotal (now (bytes .entry)) f a (b - a))) ⌝ }
+{
+    if out.len() != h.params.d {
+        return words::LENGTH;
+    }
+    if b < a {
+        return words::OUT_OF_RANGE;
+    }
+    if h.jobs < b {
+        return words::OUT_OF_RANGE;
+    }
+    if !run_in_width(bytes, h, f, a, b) {
+        return words::WIDE_WORD;
+    }
+    let sum = run_total(bytes, h, f, a, b);
+    ring::store(h.params.d, out, 0, sum);
+    0
+}
+
+// The total of a holder's file over the places a to b - 1.
+pub fn total(bytes: &[u8], holder: usize, a: usize, b: usize, out: &mut [u64]) -> u8
+    ensures { λ r. ⌜ (r ≡ totalFault (now (bytes .entry)) holder a b (length (now (out .entry))))
+        × (now (out .exit) ≡ totalWords (now (bytes .entry)) holder a b (now (out .entry))) ⌝ }
+{
+    let checked = bundle::check_bundle(bytes);
+    match checked {
+        bundle::Checked::Refused(c) => c,
+        bundle::Checked::Files(files) => {
+            let found = fetch::find_file(bytes, files, holder);
+            match found {
+                fetch::Found::Nothing => words::HOLDER,
+                fetch::Found::At(f) => {
+                    let h = records::heading_at(bytes, records::ORDER_SIZE);
+                    file_total(bytes, h, f, a, b, out)
+                }
+            }
+        }
+    }
+}
+
+// The answer where a word is wide.
+fn wide_answer() -> Answer
+    ensures { λ r. ⌜ (r .fault ≡ 3) × (r .wrong ≡ 0) × (r .words ≡ replicate 6 0) ⌝ }
+{
+    Answer {
+        fault: words::WIDE_WORD,
+        wrong: 0,
+        words: [0; 6],
+    }
+}
+
+// What the job at a place of an accepted bundle opens to: the fault 3, 5, 6 or 0; the wrong holders and the words, both zero where there
+// is a fault.
+pub fn place_answer(bytes: &[u8], h: Heading, files: usize, place: usize) -> Answer
+    requires { ⌜ (bundleFault (now bytes) ≡ 0) × (h ≡ bundleHeading (now bytes)) × (files ≡ filesOf (now bytes)) × (place < h .jobs) ⌝ }
+    ensures { λ r. ⌜ (r .fault ≡ faultOf (placeOpening (now (bytes .entry)) place))
+        × (r .wrong ≡ wrongOf (placeOpening (now (bytes .entry)) place))
+        × (r .words ≡ held (h .params .d) (outputOf (zeroE (h .params .d)) (placeOpening (now (bytes .entry)) place))) ⌝ }
+{
+    if !files_in_width(bytes, h, files, place, place + 1) {
+        return wide_answer();
+    }
+    let holders = load_holders(bytes, h, files);
+    let shares = load_place(bytes, h, files, place);
+    let p = h.params;
+    sharing::answer_to(p, files, holders, shares, allowance(bytes))
+}
+
+// What the places a to b - 1 open to, their shares added in each file.
+fn run_answer(bytes: &[u8], h: Heading, files: usize, a: usize, b: usize) -> Answer
+    requires { ⌜ (bundleFault (now bytes) ≡ 0) × (h ≡ bundleHeading (now bytes)) × (files ≡ filesOf (now bytes)) × (a ≤ b) × (b ≤ h .jobs) ⌝ }
+    ensures { λ r. ⌜ (r .fault ≡ faultOf (runOpening (now (bytes .entry)) a (b - a)))
+        × (r .wrong ≡ wrongOf (runOpening (now (bytes .entry)) a (b - a)))
+        × (r .words ≡ held (h .params .d) (outputOf (zeroE (h .params .d)) (runOpening (now (bytes .entry)) a (b - a)))) ⌝ }
+{
+    if !files_in_width(bytes, h, files, a, b) {
+        return wide_answer();
+    }
+    let holders = load_holders(bytes, h, files);
+    let shares = load_run(bytes, h, files, a, b);
+    let p = h.params;
+    sharing::answer_to(p, files, holders, shares, allowance(bytes))
+}
+
+// An answer's words go to the output, unless it has a fault.
+fn hand_out(d: usize, answer: Answer, out: &mut [u64]) -> Opened
+    requires { ⌜ (d ≤ 6) × (length (now out) ≡ d) ⌝ }
+    ensures { λ r. ⌜ (r .fault ≡ answer .fault) × (r .wrong ≡ kept (answer .fault) 0 (answer .wrong))
+        × (now (out .exit) ≡ kept (answer .fault) (now (out .entry)) (take d (answer .words))) ⌝ }
+{
+    if answer.fault != 0 {
+        return Opened {
+            fault: answer.fault,
+            wrong: 0,
+        };
+    }
+    let words = answer.words;
+    ring::store(d, out, 0, words);
+    Opened {
+        fault: 0,
+        wrong: answer.wrong,
+    }
+}
+
+// The job at a place of an accepted bundle.
+fn open_accepted_place(bytes: &[u8], files: usize, place: usize, out: &mut [u64]) -> Opened
+    requires { ⌜ (bundleFault (now bytes) ≡ 0) × (files ≡ filesOf (now bytes)) ⌝ }
+    ensures { λ r. ⌜ (r .fault ≡ faultOf (openPlace (now (bytes .entry)) place (length (now (out .entry)))))
+        × (r .wrong ≡ wrongOf (openPlace (now (bytes .entry)) place (length (now (out .entry)))))
+        × (now (out .exit) ≡ outputOf (now (out .entry)) (openPlace (now (bytes .entry)) place (length (now (out .entry))))) ⌝ }
+{
+    let h = records::heading_at(bytes, records::ORDER_SIZE);
+    if out.len() != h.params.d {
+        return Opened {
+            fault: words::LENGTH,
+            wrong: 0,
+        };
+    }
+    if h.jobs <= place {
+        return Opened {
+            fault: words::OUT_OF_RANGE,
+            wrong: 0,
+        };
+    }
+    let answer = place_answer(bytes, h, files, place);
+    hand_out(h.params.d, answer, out)
+}
+
+// A run of an accepted bundle.
+fn open_accepted_run(bytes: &[u8], files: usize, a: usize, b: usize, out: &mut [u64]) -> Opened
+    requires { ⌜ (bundleFault (now bytes) ≡ 0) × (files ≡ filesOf (now bytes)) ⌝ }
+    ensures { λ r. ⌜ (r .fault ≡ faultOf (openRun (now (bytes .entry)) a b (length (now (out .entry)))))
+        × (r .wrong ≡ wrongOf (openRun (now (bytes .entry)) a b (length (now (out .entry)))))
+        × (now (out .exit) ≡ outputOf (now (out .entry)) (openRun (now (bytes .entry)) a b (length (now (out .entry))))) ⌝ }
+{
+    let h = records::heading_at(bytes, records::ORDER_SIZE);
+    if out.len() != h.params.d {
+        return Opened {
+            fault: words::LENGTH,
+            wrong: 0,
+        };
+    }
+    if b < a {
+        return Opened {
+            fault: words::OUT_OF_RANGE,
+            wrong: 0,
+        };
+    }
+    if h.jobs < b {
+        return Opened {
+            fault: words::OUT_OF_RANGE,
+            wrong: 0,
+        };
+    }
+    let answer = run_answer(bytes, h, files, a, b);
+    hand_out(h.params.d, answer, out)
+}
+
+// Opens the job at a place: its words go to the output.
+pub fn open_place(bytes: &[u8], place: usize, out: &mut [u64]) -> Opened
+    ensures { λ r. ⌜ (r .fault ≡ faultOf (openPlace (now (bytes .entry)) place (length (now (out .entry)))))
+        × (r .wrong ≡ wrongOf (openPlace (now (bytes .entry)) place (length (now (out .entry)))))
+        × (now (out .exit) ≡ outputOf (now (out .entry)) (openPlace (now (bytes .entry)) place (length (now (out .entry))))) ⌝ }
+{
+    let checked = bundle::check_bundle(bytes);
+    match checked {
+        bundle::Checked::Refused(c) => Opened { fault: c, wrong: 0 },
+        bundle::Checked::Files(files) => open_accepted_place(bytes, files, place, out),
+    }
+}
+
+// Opens the sum of the jobs at the places a to b - 1: its words go to the output.
+pub fn open_run(bytes: &[u8], a: usize, b: usize, out: &mut [u64]) -> Opened
+    ensures { λ r. ⌜ (r .fault ≡ faultOf (openRun (now (bytes .entry)) a b (length (now (out .entry)))))
+        × (r .wrong ≡ wrongOf (openRun (now (bytes .entry)) a b (length (now (out .entry)))))
+        × (now (out .exit) ≡ outputOf (now (out .entry)) (openRun (now (bytes .entry)) a b (length (now (out .entry))))) ⌝ }
+{
+    let checked = bundle::check_bundle(bytes);
+    match checked {
+        bundle::Checked::Refused(c) => Opened { fault: c, wrong: 0 },
+        bundle::Checked::Files(files) => open_accepted_run(bytes, files, a, b, out),
+    }
+}
