@@ -1,5 +1,5 @@
 -- What accepted files and bundles are: each file at its place, with no fault, and the last at the end. Assumes nothing.
-use mathlib.Core.Path.{_≡_, refl, sym, ap, _∙_}
+use mathlib.Core.Path.{_≡_, sym, _∙_}
 use Prim.Native.Nat.{ℕ, zero, suc, _+_, _-_, _*_, _^_, _≤_, _<_}
 use native.Mathlib.Nat.{mul-le-mul-right, pow-le-pow-right}
 use native.Mathlib.Omega.{arith}
@@ -8,16 +8,16 @@ use mathlib.Core.List.{List}
 use lib.ListN.{length}
 use lib.Dec.{ltb, lit<}
 use borrow.Author.Tests.{lt-ltb, ltb-true}
-use Rattle.words.specs.Refusal.{first, unless, firstOf}
+use Rattle.words.specs.Refusal.{unless, firstOf}
 use Rattle.words.proofs.Refusal.{first-left, first-right, unless-held, firstOf-each}
 use Rattle.records.specs.Layout.{recordSize, headSize, jobLen, jobSize, fileSize, orderKind, orderLen, orderSize}
 use Rattle.records.specs.Record.{framed, headingOf}
-use Rattle.bundle.specs.Bundle.{numOf, prevNum, jobFault, fileFaultAt, placeAt, prevHolder, filesIn, when, placeFault, filesFault, bundleFault}
+use Rattle.bundle.specs.Bundle.{numOf, prevNum, jobFault, fileFaultAt, placeAt, prevHolder, filesIn, placeFault, filesFault, bundleFault}
 use Rattle.bundle.specs.Bundle.{bundleHeading, filesOf, fileAt, jobAt}
 use Rattle.records.specs.declared.Heading.{Heading}
 use Rattle.records.proofs.Lengths.{head-low, file-low}
 use Rattle.records.proofs.Record.{Frame, framed-frame}
-use Rattle.bundle.proofs.Headings.{Ranges, Same, same-head, same-job, same-file, HeadingOk, JobOk, job-ok}
+use Rattle.bundle.proofs.Headings.{Ranges, Same, same-head, same-job, JobOk, job-ok}
 use Rattle.bundle.proofs.Files.{FileOk, file-ok, FilesAt, files-start, files-here, files-next, files-count, place-low, place-next, size-low}
 
 -- files one after another with no fault

@@ -1,6 +1,6 @@
 -- Laws of a run of jobs, of a file, and of files one after another: where each stands, and the first fault. Assumes nothing.
-use mathlib.Core.Path.{_≡_, refl, sym, ap, ap₂, _∙_}
-use Prim.Native.Nat.{ℕ, zero, suc, _+_, _-_, _*_, _/_, _≤_, _<_}
+use mathlib.Core.Path.{_≡_, refl, sym, _∙_}
+use Prim.Native.Nat.{ℕ, zero, suc, _+_, _*_, _≤_, _<_}
 use native.Mathlib.Nat.{mul-le-mul-left, mul-le-mul-right, div-eq-of-eq-mul-left}
 use native.Mathlib.Omega.{arith}
 use native.Mathlib.Numerals.{add-one}
@@ -10,16 +10,15 @@ use mathlib.Core.Bool.{true, false}
 use lib.ListN.{length}
 use lib.Dec.{ltb, eqb, lit<}
 use borrow.Author.Tests.{lt-ltb, le-ltb}
-use Rattle.words.specs.Refusal.{first, unless, firstOf}
+use Rattle.words.specs.Refusal.{unless, firstOf}
 use Rattle.words.proofs.Refusal.{pass, stop, first-none, first-some, first-left, first-right, firstOf-more, firstOf-stop, firstOf-each, firstOf-zero}
-use Rattle.records.specs.Layout.{recordSize, headSize, jobLen, jobSize, fileSize, orderKind, orderLen, orderSize}
+use Rattle.records.specs.Layout.{recordSize, headSize, jobLen, fileSize, orderKind, orderLen, orderSize}
 use Rattle.records.specs.Record.{framed, headingOf}
-use Rattle.bundle.specs.Bundle.{numOf, headingFault, jobFaultAt, prevNum, jobFault, fileFaultAt, fileFault, placeAt, prevHolder, filesIn, when}
-use Rattle.bundle.specs.Bundle.{placeFault, filesFault, bundleFault, filesOf, checked, checkedFault}
+use Rattle.bundle.specs.Bundle.{numOf, headingFault, jobFaultAt, prevNum, jobFault, fileFaultAt, fileFault, placeAt, prevHolder, filesIn}
+use Rattle.bundle.specs.Bundle.{placeFault, filesFault, bundleFault, checked, checkedFault}
 use Rattle.bundle.specs.declared.Checked.the-variants.{Files, Refused}
 use Rattle.records.proofs.Lengths.{head-low, file-low}
-use Rattle.records.proofs.Record.{Frame}
-use Rattle.bundle.proofs.Headings.{Same, same-file, HeadingOk, heading-ok, JobOk, job-ok}
+use Rattle.bundle.proofs.Headings.{same-file, HeadingOk, heading-ok, job-ok}
 
 -- ---- a run of jobs
 

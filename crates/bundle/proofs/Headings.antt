@@ -1,19 +1,17 @@
 -- Laws of the fault of one heading and of one job: each case, and what no fault says. Assumes nothing.
-use mathlib.Core.Path.{_≡_, refl, sym, ap, ap₂, _∙_}
-use Prim.Native.Nat.{ℕ, zero, suc, _+_, _-_, _*_, _≤_, _<_}
-use native.Mathlib.Omega.{arith}
+use mathlib.Core.Path.{_≡_, refl, ap, ap₂, _∙_}
+use Prim.Native.Nat.{ℕ, _+_, _*_, _≤_, _<_}
 use mathlib.Core.List.{List}
-use mathlib.Core.Bool.{Bool, true, false, _&&_, _||_}
-use lib.ListN.{length, getD}
-use lib.Dec.{leb, ltb, eqb, lit<}
+use mathlib.Core.Bool.{true, false, _||_}
+use lib.Dec.{ltb, eqb, lit<}
 use borrow.Author.Tests.{le-leb, lt-ltb, eq-eqb, leb-true, ltb-true, eqb-true}
-use Rattle.words.specs.Refusal.{first, unless, firstOf}
+use Rattle.words.specs.Refusal.{unless}
 use Rattle.words.specs.Params.{paramsOk}
 use Rattle.words.specs.declared.Params.{Params}
 use Rattle.words.proofs.Tests.{and-left, and-right, and-both, and-yes, and-no}
 use Rattle.words.proofs.Refusal.{pass, stop, first-left, first-right, unless-held, unless-yes}
 use Rattle.words.proofs.InRange.{InRange, range-ok, ok-range}
-use Rattle.records.specs.Layout.{recordSize, headKind, headLen, headSize, wordSize, jobKind, jobLenOf, jobLen, jobSize, fileSize}
+use Rattle.records.specs.Layout.{recordSize, headKind, headLen, headSize, wordSize, jobKind, jobLenOf, jobLen, fileSize}
 use Rattle.records.specs.Record.{framed, headingOf}
 use Rattle.bundle.specs.Bundle.{mostJobs, rangesOk, holderOk, sameParams, belongs, headingFault, numOf, jobFaultAt}
 use Rattle.records.specs.declared.Heading.{Heading}

@@ -1,6 +1,5 @@
 pub mod Candidate
 pub mod ErrorSet
-pub mod Examples
 pub mod Find
 pub mod Join
 pub mod Linear

@@ -1,25 +1,24 @@
 -- Laws of a fetch: a search over files, each case, and that no fetch that succeeds gives an empty part. Assumes nothing.
-use mathlib.Core.Path.{_≡_, refl, sym, ap, ap₂, _∙_}
-use Prim.Native.Nat.{ℕ, zero, suc, _+_, _-_, _*_, _≤_, _<_}
+use mathlib.Core.Path.{_≡_, refl, sym, ap, _∙_}
+use Prim.Native.Nat.{ℕ, zero, suc, _+_, _-_, _≤_, _<_}
 use native.Mathlib.Omega.{arith}
 use mathlib.Core.List.{List, []}
 use mathlib.Core.Bool.{Bool, true, false}
-use lib.ListN.{length, take, drop}
+use lib.ListN.{length}
 use lib.Dec.{ltb, eqb, lit<}
 use borrow.Author.Tests.{lt-ltb, le-ltb, ltb-true, eqb-true, eq-eqb, ne-eqb}
-use Rattle.words.specs.Refusal.{first, unless, kept}
+use Rattle.words.specs.Refusal.{unless}
 use Rattle.words.proofs.Tests.{bool-cases}
 use Rattle.words.proofs.Refusal.{pass, stop, first-none, first-some, first-left, first-right, unless-held}
 use Rattle.records.specs.Num.{part}
-use Rattle.records.specs.Layout.{bodyAt, recordSize, bodySize, jobLen, jobSize, fileSize, orderSize}
+use Rattle.records.specs.Layout.{bodyAt, recordSize, bodySize, jobLen, fileSize, orderSize}
 use Rattle.records.specs.Record.{headingOf}
 use Rattle.bundle.specs.Bundle.{bundleHeading, placeAt, fileAt, bundleFault, filesOf, jobAt}
-use Rattle.fetch.specs.Fetch.{pickPlace, findFrom, fileOf, pickFound, foundOf, bodyFault, bodyOf}
-use Rattle.fetch.specs.declared.Found.{Found}
+use Rattle.fetch.specs.Fetch.{pickPlace, findFrom, fileOf, foundOf, bodyFault, bodyOf}
 use Rattle.fetch.specs.declared.Found.the-variants.{At, Nothing}
 use Rattle.records.proofs.Num.{part-length}
 use Rattle.records.proofs.Lengths.{job-length-low}
-use Rattle.bundle.proofs.Accepted.{Accepted, accepted, job-within}
+use Rattle.bundle.proofs.Accepted.{accepted, job-within}
 
 -- ---- a search
 

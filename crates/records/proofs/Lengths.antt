@@ -4,12 +4,12 @@ use Prim.Native.Nat.{ℕ, _+_, _-_, _*_, _/_, _%_, _≤_, _<_}
 use native.Mathlib.Omega.{arith}
 use native.Mathlib.Decide.{decLe}
 use native.Mathlib.Nat.{mul-le-mul}
-use mathlib.Core.Bool.{Bool, true, false, _&&_, _||_, and-false, or-false}
+use mathlib.Core.Bool.{true, false, and-false, or-false}
 use lib.Dec.{eqb}
 use borrow.Author.Tests.{ne-eqb, eqb-true, eqb-false}
 use Rattle.words.proofs.Tests.{true-false, bool-cases}
 use Rattle.words.proofs.InRange.{six}
-use Rattle.records.specs.Layout.{plainLen, recordSize, bodySize, headKind, headLen, headSize, wordSize, jobKind, jobLenOf, jobLen, jobSize, orderKind}
+use Rattle.records.specs.Layout.{plainLen, recordSize, headKind, headLen, headSize, wordSize, jobKind, jobLenOf, jobLen, jobSize, orderKind}
 use Rattle.records.specs.Layout.{orderLen, jobLenKnown, known, fileSize}
 use Rattle.records.specs.declared.Heading.{Heading}
 

@@ -1,13 +1,12 @@
 -- Laws of little-endian numbers and of parts of a list of bytes. Assumes nothing.
-use mathlib.Core.Path.{_≡_, refl, sym, ap, ap₂, _∙_}
+use mathlib.Core.Path.{_≡_, refl, ap, ap₂}
 use Prim.Native.Nat.{ℕ, zero, suc, _+_, _-_, _*_, _/_, _%_, _^_, _≤_, _<_}
-use native.Mathlib.Nat.{one-le-pow, pow-suc, not-suc-le-zero, suc-pred-eq-of-pos}
+use native.Mathlib.Nat.{one-le-pow, pow-suc, not-suc-le-zero}
 use native.Mathlib.Omega.{arith}
-use native.Mathlib.Numerals.{sub-one}
 use native.Mathlib.Decide.{decLe}
 use mathlib.Core.List.{List, [], _∷_, _++_}
-use lib.ListN.{length, getD, take, drop, length-take, length-drop, drop-of-length-le, List·getD-eq-default}
-use lib.Seq.{getD-take, getD-drop, take-add, drop-drop, drop-cons, take-length, length-take-le}
+use lib.ListN.{length, getD, drop, length-take, length-drop, drop-of-length-le, List·getD-eq-default}
+use lib.Seq.{getD-take, getD-drop, take-add, drop-drop, drop-cons, take-length}
 use lib.Dec.{lit<}
 use Rattle.records.specs.Num.{part, leNum, leAt, leBytes}
 

@@ -1,16 +1,16 @@
 -- Laws of records and of the cursor's read. Assumes nothing.
 use mathlib.Core.Path.{_≡_, refl, sym, ap, _∙_}
-use Prim.Native.Nat.{ℕ, _+_, _-_, _*_, _≤_, _<_}
+use Prim.Native.Nat.{ℕ, _+_, _-_, _≤_, _<_}
 use native.Mathlib.Omega.{arith}
 use native.Mathlib.Decide.{decLe}
 use mathlib.Core.List.{List}
-use mathlib.Core.Bool.{Bool, true, false, _&&_, _||_, and-false, or-false}
+use mathlib.Core.Bool.{Bool, true, false, _&&_, and-false}
 use lib.ListN.{length}
 use lib.Dec.{leb, eqb}
 use borrow.Author.Tests.{le-leb, lt-leb, eq-eqb, ne-eqb, leb-true, eqb-true}
 use Rattle.words.proofs.Tests.{bool-cases, not-held, and-left, and-right}
 use Rattle.records.specs.Layout.{bodyAt, recordSize, bodySize, known}
-use Rattle.records.specs.Record.{lenAt, kindAt, whole, framed, pickRead, readAt, readFault, readNext}
+use Rattle.records.specs.Record.{lenAt, kindAt, whole, framed, pickRead, readAt, readNext}
 use Rattle.records.specs.declared.Cursor.{Cursor}
 use Rattle.records.specs.declared.Read.{Read}
 use Rattle.records.specs.declared.Read.the-variants.{Record, End, Fault}

@@ -1,4 +1,3 @@
-pub mod Examples
 pub mod Zmod
 pub mod Galois
 pub mod Table

@@ -1,6 +1,6 @@
 -- Reading what was written gives what was written. Assumes nothing.
 use mathlib.Core.Path.{_≡_, refl, sym, ap, ap₂, subst, _∙_}
-use Prim.Native.Nat.{ℕ, zero, suc, _+_, _-_, _*_, _^_, _≤_, _<_}
+use Prim.Native.Nat.{ℕ, zero, suc, _+_, _*_, _^_, _≤_, _<_}
 use native.Mathlib.Omega.{arith}
 use mathlib.Core.List.{List, [], _∷_, _++_}
 use mathlib.Core.Bool.{true, _||_, or-true}
@@ -9,24 +9,23 @@ use lib.Dec.{lit<, eqb, ltb}
 use borrow.Author.Tests.{lt-ltb, eq-eqb}
 use Rattle.words.specs.Refusal.{firstOf}
 use Rattle.words.proofs.Refusal.{first-none, unless-yes, firstOf-zero}
-use Rattle.records.specs.Num.{leAt, leBytes}
-use Rattle.records.specs.Layout.{bodyAt, wordsAt, recordSize, headKind, headLen, headSize, wordSize, jobKind, jobLenOf, jobLen, jobSize, fileSize}
+use Rattle.records.specs.Num.{leBytes}
+use Rattle.records.specs.Layout.{bodyAt, wordsAt, recordSize, headKind, headLen, headSize, wordSize, jobKind, jobLen, jobSize, fileSize}
 use Rattle.records.specs.Layout.{orderKind, orderLen, orderSize}
 use Rattle.records.specs.Record.{headingOf}
-use Rattle.bundle.specs.Bundle.{numOf, jobFault, prevNum, fileFaultAt, fileFault, filesFault, bundleFault, filesOf, bundleHeading}
+use Rattle.bundle.specs.Bundle.{numOf, jobFault, prevNum, fileFaultAt, fileFault, bundleFault, filesOf, bundleHeading}
 use Rattle.bundle.specs.Contents.{Job, File, Bundle, wordsFrom, jobFrom, jobsFrom, fileFrom, filesFrom, bundleFrom}
 use Rattle.records.specs.declared.Heading.{Heading}
-use Rattle.words.specs.declared.Params.{Params}
 use Rattle.records.proofs.Num.{length-leBytes}
 use Rattle.records.proofs.Lengths.{head-low, file-low, job-high}
 use Rattle.records.proofs.Record.{Frame, frame-framed}
-use Rattle.bundle.proofs.Headings.{Ranges, Same, same-self, same-file, same-head, same-job, HeadingOk, ok-heading, JobOk, ok-job}
+use Rattle.bundle.proofs.Headings.{Same, same-self, same-file, same-head, same-job, HeadingOk, ok-heading, ok-job}
 use Rattle.bundle.proofs.Files.{FilesAt, files-start, files-next, files-none, files-count, files-some, bundle-files}
-use Rattle.writer.specs.Bytes.{recordBytes, headingBody, headingBytes, wordsBytes, jobBody, jobBytes, jobsBytes, fileBytes, filesBytes}
+use Rattle.writer.specs.Bytes.{headingBody, headingBytes, wordsBytes, jobBody, jobBytes, jobsBytes, fileBytes, filesBytes}
 use Rattle.writer.specs.Bytes.{orderBytes, bundleBytes}
 use Rattle.writer.specs.Write.{numbersIn}
 use Rattle.writer.proofs.Holds.{Holds, holds-all, left, right, tail, head, within, num-is, move, rec-body, rec-frame}
-use Rattle.writer.proofs.Fits.{JobFits, AllFit, no-job, a-job, FileFits, Chain, done, next, BundleFits, heading-body-length, heading-length}
+use Rattle.writer.proofs.Fits.{JobFits, AllFit, a-job, FileFits, Chain, next, BundleFits, heading-body-length, heading-length}
 use Rattle.writer.proofs.Fits.{job-body-length, job-length, file-length, order-length}
 
 -- ---- a heading

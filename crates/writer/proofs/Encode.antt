@@ -4,23 +4,23 @@ use Prim.Native.Nat.{ℕ, zero, suc, _+_, _-_, _*_, _≤_, _<_}
 use native.Mathlib.Omega.{arith}
 use native.Mathlib.Numerals.{add-one}
 use mathlib.Core.List.{List, [], _∷_, _++_}
-use lib.ListN.{length, getD, take, drop}
+use lib.ListN.{length, getD}
 use lib.Seq.{drop-cons}
 use lib.Dec.{lit<}
 use borrow.Author.Tests.{eqb-true}
 use Rattle.words.proofs.Refusal.{first-left, first-right, unless-held}
-use Rattle.records.specs.Num.{part, leAt, leBytes}
+use Rattle.records.specs.Num.{part, leBytes}
 use Rattle.records.specs.Layout.{bodyAt, wordsAt, recordSize, bodySize, headKind, headLen, headSize, wordSize, jobKind, jobLenOf, jobLen, jobSize}
 use Rattle.records.specs.Layout.{fileSize, orderKind, orderLen, orderSize}
 use Rattle.records.specs.Record.{lenAt, kindAt, headingOf}
 use Rattle.bundle.specs.Bundle.{numOf, jobFault, prevNum, fileFaultAt, fileFault, placeAt, filesOf, prevHolder, bundleHeading, bundleFault}
-use Rattle.bundle.specs.Contents.{Job, File, Bundle, wordsFrom, jobFrom, jobsFrom, fileFrom, filesFrom, bundleFrom}
+use Rattle.bundle.specs.Contents.{wordsFrom, jobFrom, jobsFrom, fileFrom, filesFrom, bundleFrom}
 use Rattle.records.specs.declared.Heading.{Heading}
 use Rattle.records.proofs.Num.{Bytes, part-split, part-length, part-all, leBytes-leAt}
 use Rattle.records.proofs.Record.{Frame}
 use Rattle.bundle.proofs.Headings.{same-file, job-ok}
-use Rattle.bundle.proofs.Files.{FileOk, file-ok}
-use Rattle.bundle.proofs.Accepted.{Accepted, accepted, same-at}
+use Rattle.bundle.proofs.Files.{file-ok}
+use Rattle.bundle.proofs.Accepted.{accepted, same-at}
 use Rattle.writer.specs.Bytes.{recordBytes, headingBody, headingBytes, wordsBytes, jobBody, jobBytes, jobsBytes, fileBytes, filesBytes}
 use Rattle.writer.specs.Bytes.{orderBytes, bundleBytes}
 

@@ -1,18 +1,18 @@
 -- Values that can be written: files of jobs in their ranges, and bundles of files that belong together; and how many bytes they have. Assumes
 -- nothing.
-use mathlib.Core.Path.{_≡_, refl, sym, ap, ap₂, _∙_}
-use Prim.Native.Nat.{ℕ, zero, suc, _+_, _-_, _*_, _^_, _≤_, _<_}
+use mathlib.Core.Path.{_≡_, ap, ap₂, _∙_}
+use Prim.Native.Nat.{ℕ, suc, _+_, _*_, _^_, _≤_, _<_}
 use native.Mathlib.Omega.{arith}
 use mathlib.Core.List.{List, [], _∷_, _++_}
 use lib.ListN.{length, getD, length-append}
 use Rattle.records.specs.Num.{leBytes}
 use Rattle.records.specs.Layout.{recordSize, headLen, headSize, wordSize, jobKind, headKind, jobLenOf, jobLen, jobSize, fileSize, orderKind}
 use Rattle.records.specs.Layout.{orderSize}
-use Rattle.bundle.specs.Contents.{Job, File, Bundle}
+use Rattle.bundle.specs.Contents.{Job, File}
 use Rattle.records.specs.declared.Heading.{Heading}
 use Rattle.records.proofs.Num.{length-leBytes}
 use Rattle.bundle.proofs.Headings.{Ranges, Same}
-use Rattle.writer.specs.Bytes.{recordBytes, headingBody, headingBytes, wordsBytes, jobBody, jobBytes, jobsBytes, fileBytes, orderBytes}
+use Rattle.writer.specs.Bytes.{headingBody, headingBytes, wordsBytes, jobBody, jobBytes, jobsBytes, fileBytes, orderBytes}
 use Rattle.writer.specs.Write.{numbersIn}
 use Rattle.writer.proofs.Holds.{record-length}
 

@@ -1,10 +1,10 @@
 -- A bundle is its order and then files: its fault is that of the files alone. Assumes nothing.
-use mathlib.Core.Path.{_≡_, refl, sym, ap, _∙_}
+use mathlib.Core.Path.{_≡_, sym, ap, _∙_}
 use Prim.Native.Nat.{ℕ, _+_}
 use native.Mathlib.Omega.{arith}
 use mathlib.Core.List.{List, [], _∷_, _++_}
 use mathlib.Core.Bool.{true}
-use lib.ListN.{length, getD, drop, length-append}
+use lib.ListN.{length, getD, drop}
 use lib.Seq.{drop-at}
 use lib.Dec.{lit<}
 use Rattle.records.specs.Layout.{bodyAt, orderKind, orderLen, orderSize}
@@ -12,9 +12,8 @@ use Rattle.records.specs.Record.{framed}
 use Rattle.bundle.specs.Bundle.{filesFault, bundleFault}
 use Rattle.bundle.specs.Contents.{bundleFrom}
 use Rattle.records.proofs.Num.{Bytes}
-use Rattle.records.proofs.Record.{Frame, frame-framed}
+use Rattle.records.proofs.Record.{frame-framed}
 use Rattle.bundle.proofs.Files.{bundle-files}
-use Rattle.bundle.proofs.Accepted.{accepted}
 use Rattle.writer.specs.Bytes.{orderBytes, filesBytes, bundleBytes}
 use Rattle.writer.proofs.Holds.{holds-all, left, rec-frame}
 use Rattle.writer.proofs.Fits.{order-length}

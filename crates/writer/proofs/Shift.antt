@@ -1,17 +1,15 @@
 -- Bytes in front change no fault of the files behind them: every position moves on by as many. Assumes nothing.
-use mathlib.Core.Path.{_≡_, refl, sym, ap, ap₂, _∙_}
-use Prim.Native.Nat.{ℕ, zero, suc, _+_, _-_, _*_, _≤_, _<_}
+use mathlib.Core.Path.{_≡_, refl, ap, ap₂, _∙_}
+use Prim.Native.Nat.{ℕ, zero, suc, _+_, _*_, _≤_}
 use native.Mathlib.Omega.{arith}
-use native.Mathlib.Decide.{decLe}
 use mathlib.Core.List.{List, _++_}
-use mathlib.Core.Bool.{Bool, true, false, _&&_, _||_}
+use mathlib.Core.Bool.{Bool}
 use lib.ListN.{length, getD, take, length-append}
 use lib.Seq.{drop-append-add, getD-append-add}
-use lib.Dec.{leb, ltb, eqb}
+use lib.Dec.{leb, ltb}
 use borrow.Author.Tests.{le-leb, leb-true, lt-ltb, ltb-true, le-ltb}
 use Rattle.words.specs.Refusal.{first, unless, firstOf}
 use Rattle.words.proofs.Tests.{same-test}
-use Rattle.words.proofs.Refusal.{firstOf-more}
 use Rattle.records.specs.Num.{part, leNum, leAt}
 use Rattle.records.specs.Layout.{bodyAt, kindPlace, recordSize, headKind, headLen, headSize, jobKind, jobLen, fileSize}
 use Rattle.records.specs.Record.{lenAt, kindAt, framed, headingOf}

@@ -1,11 +1,11 @@
 -- The file writer and the reader undo each other: a file that was written is accepted and reads as the lent lists, and an accepted file whose words
 -- are in width is what the writer writes of its contents. Assumes nothing.
-use mathlib.Core.Path.{_≡_, refl, sym, ap, ap₂, _∙_}
+use mathlib.Core.Path.{_≡_, refl, ap, ap₂, _∙_}
 use Prim.Native.Nat.{ℕ, zero, suc, _+_, _-_, _*_, _^_, _≤_, _<_}
 use native.Mathlib.Nat.{not-suc-le-zero, pow-le-pow-right}
 use native.Mathlib.Omega.{arith}
 use mathlib.Core.List.{List, [], _∷_, _++_}
-use mathlib.Core.Bool.{true, _&&_}
+use mathlib.Core.Bool.{true}
 use lib.ListN.{length, getD, take, drop, length-append, length-drop}
 use lib.Seq.{take-at, drop-at, getD-take, getD-drop, length-take-le}
 use lib.Dec.{ltb, lit<}
@@ -14,16 +14,16 @@ use Rattle.words.specs.Word.{allInWidth}
 use Rattle.words.specs.declared.Params.{Params}
 use Rattle.words.proofs.Tests.{and-left, and-right, and-yes}
 use Rattle.words.proofs.Width.{width-at}
-use Rattle.records.specs.Layout.{wordSize, fileSize}
+use Rattle.records.specs.Layout.{wordSize}
 use Rattle.records.specs.Record.{headingOf}
-use Rattle.bundle.specs.Bundle.{rangesOk, holderOk, fileFault}
+use Rattle.bundle.specs.Bundle.{fileFault}
 use Rattle.bundle.specs.Contents.{Job, File, fileFrom}
 use Rattle.records.specs.declared.Heading.{Heading}
 use Rattle.records.proofs.Num.{Bytes}
-use Rattle.bundle.proofs.Headings.{Ranges, ranges-ok, ok-ranges, holder-ok, ok-holder}
+use Rattle.bundle.proofs.Headings.{ranges-ok, ok-ranges, holder-ok, ok-holder}
 use Rattle.writer.specs.Bytes.{fileBytes}
 use Rattle.writer.specs.Write.{headingFor, jobOf, jobsOf, fileFor, numbersIn, wordsIn, rising, writeFault}
-use Rattle.writer.proofs.Fits.{JobFits, AllFit, no-job, a-job, FileFits, file-length}
+use Rattle.writer.proofs.Fits.{AllFit, no-job, a-job, FileFits, file-length}
 use Rattle.writer.proofs.Encode.{file-written}
 use Rattle.writer.proofs.Decode.{file-read}
 use Rattle.writer.proofs.Whole.{file-accepted}

@@ -1,23 +1,22 @@
 -- What stands in accepted bytes can be written: with `Encode` and `Decode`, accepted bytes are exactly what the writer writes. Assumes nothing.
 use mathlib.Core.Path.{_≡_, refl, sym, ap, ap₂, subst, _∙_}
-use Prim.Native.Nat.{ℕ, zero, suc, _+_, _-_, _*_, _^_, _≤_, _<_}
+use Prim.Native.Nat.{ℕ, zero, suc, _+_, _-_, _*_, _<_}
 use native.Mathlib.Omega.{arith}
-use mathlib.Core.List.{List, [], _∷_}
+use mathlib.Core.List.{List, _∷_}
 use mathlib.Core.Bool.{true, _||_}
-use lib.ListN.{length, getD}
+use lib.ListN.{getD}
 use lib.Dec.{ltb, eqb, eqb·suc-zero}
 use borrow.Author.Tests.{ltb-true}
 use Rattle.words.proofs.Refusal.{first-left}
-use Rattle.records.specs.Num.{leAt}
 use Rattle.records.specs.Layout.{bodyAt, wordsAt, recordSize, headSize, wordSize, jobLen, jobSize, fileSize, orderSize}
 use Rattle.records.specs.Record.{headingOf}
 use Rattle.bundle.specs.Bundle.{numOf, jobFault, prevNum, fileFaultAt, fileFault, placeAt, prevHolder, filesOf, bundleFault, bundleHeading, fileAt}
 use Rattle.bundle.specs.Bundle.{jobAt}
-use Rattle.bundle.specs.Contents.{Job, File, Bundle, wordsFrom, jobFrom, jobsFrom, fileFrom, filesFrom, bundleFrom}
+use Rattle.bundle.specs.Contents.{jobFrom, jobsFrom, fileFrom, filesFrom, bundleFrom}
 use Rattle.records.specs.declared.Heading.{Heading}
 use Rattle.records.proofs.Num.{Bytes, leAt-lt}
 use Rattle.bundle.proofs.Headings.{Same, same-head, same-job, job-ok}
-use Rattle.bundle.proofs.Files.{FileOk, file-ok}
+use Rattle.bundle.proofs.Files.{file-ok}
 use Rattle.bundle.proofs.Accepted.{Accepted, accepted, file-at, same-at, number-at}
 use Rattle.bundle.proofs.Contents.{words-count, words-at, jobs-count}
 use Rattle.writer.specs.Bytes.{fileBytes, bundleBytes}

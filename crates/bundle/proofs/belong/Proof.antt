@@ -1,10 +1,10 @@
 -- `belong`: headings that belong together would pass each test that failed. Assumes nothing.
 use mathlib.Core.Path.{_≡_, sym, _∙_}
-use mathlib.Core.Bool.{true, false}
+use mathlib.Core.Bool.{false}
 use borrow.Author.Needs.{needs}
 use borrow.Author.Tests.{eq-eqb, eqb-true, not-true, not-false}
 use Rattle.words.proofs.Tests.{not-held, same-test, true-false}
-use Rattle.bundle.specs.Bundle.{sameParams, belongs}
+use Rattle.bundle.specs.Bundle.{belongs}
 use Rattle.bundle.proofs.Headings.{same-params, params-same, Same, same-belongs, belongs-same}
 use Rattle.bundle.proofs.belong.Statement.{statement}
 use Rattle.bundle.proofs.belong.Tie as tie

@@ -1,12 +1,12 @@
 -- `check_bundle`: the order, then the files. Assumes nothing.
-use mathlib.Core.Path.{_≡_, sym, ap, _∙_}
+use mathlib.Core.Path.{sym, ap, _∙_}
 use Prim.Native.Nat.{ℕ}
 use mathlib.Core.List.{List}
 use borrow.Author.Needs.{needs}
 use borrow.Author.Tests.{not-true, not-false}
 use native.Mathlib.Omega.{arith}
 use denote.Ref.{now}
-use Rattle.bundle.specs.Bundle.{bundleFault, filesOf, checked}
+use Rattle.bundle.specs.Bundle.{filesOf, checked}
 use Rattle.records.proofs.Lengths.{known-order}
 use Rattle.bundle.proofs.Files.{bundle-order, bundle-files, checked-refused}
 use Rattle.bundle.proofs.check_bundle.Statement.{statement}

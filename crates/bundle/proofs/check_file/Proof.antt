@@ -1,17 +1,15 @@
 -- `check_file`: the file's first fault, or else its end. Assumes nothing.
 use mathlib.Core.Path.{_≡_, sym, ap, _∙_}
-use Prim.Native.Nat.{ℕ, _+_}
+use Prim.Native.Nat.{ℕ}
 use mathlib.Core.List.{List}
 use borrow.Author.Needs.{needs}
 use borrow.Author.Tests.{eq-eqb, ne-eqb}
-use native.Mathlib.Omega.{arith}
 use lib.ListN.{length}
 use lib.Dec.{eqb}
 use denote.Ref.{now}
 use Rattle.words.specs.Refusal.{unless}
 use Rattle.words.proofs.Refusal.{unless-yes, unless-no}
 use Rattle.records.specs.Layout.{fileSize}
-use Rattle.records.specs.Record.{headingOf}
 use Rattle.bundle.specs.Bundle.{fileFault}
 use Rattle.bundle.proofs.Files.{FileOk, file-ok, file-fault, file-end}
 use Rattle.bundle.proofs.check_file.Statement.{statement}

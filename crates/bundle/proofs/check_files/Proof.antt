@@ -1,14 +1,14 @@
 -- The loop of `check_files`: the files passed have no fault. Assumes nothing.
-use mathlib.Core.Path.{_≡_, refl, sym, ap, _∙_}
+use mathlib.Core.Path.{_≡_, sym, ap, _∙_}
 use Prim.Native.Nat.{ℕ, _+_, _-_, _≤_}
 use mathlib.Core.List.{List}
 use native.Mathlib.Omega.{arith}
 use lib.ListN.{length}
 use denote.Ref.{now}
-use Rattle.records.specs.Layout.{headSize, fileSize}
+use Rattle.records.specs.Layout.{fileSize}
 use Rattle.records.specs.Record.{headingOf}
 use Rattle.bundle.specs.Bundle.{fileFaultAt, filesFault, filesIn, checked}
-use Rattle.bundle.specs.declared.Checked.the-variants.{Files, Refused}
+use Rattle.bundle.specs.declared.Checked.the-variants.{Refused}
 use Rattle.records.proofs.Lengths.{head-low, file-low}
 use Rattle.bundle.proofs.Files.{FileOk, file-ok, FilesAt, files-start, files-stop, files-next, files-none, files-count, place-low, place-start}
 use Rattle.bundle.proofs.Files.{files-empty, files-some, checked-refused, checked-files}

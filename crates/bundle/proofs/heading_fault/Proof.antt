@@ -1,7 +1,7 @@
 -- `heading_fault`: each return is a case of the heading's fault. Assumes nothing.
-use mathlib.Core.Path.{_≡_, refl, sym, ap, ap₂, _∙_}
+use mathlib.Core.Path.{_≡_, sym, ap, ap₂, _∙_}
 use Prim.Native.Nat.{ℕ, _+_, _≤_}
-use mathlib.Core.Bool.{true, false}
+use mathlib.Core.Bool.{true}
 use mathlib.Core.List.{List}
 use lib.ListN.{length}
 use borrow.Author.Needs.{needs}
@@ -10,7 +10,7 @@ use native.Mathlib.Omega.{arith}
 use denote.Ref.{now}
 use Rattle.words.specs.Refusal.{unless}
 use Rattle.words.proofs.Refusal.{unless-yes, unless-no}
-use Rattle.records.specs.Layout.{recordSize, headKind, headLen, headSize}
+use Rattle.records.specs.Layout.{headKind, headLen, headSize}
 use Rattle.records.specs.Record.{framed, headingOf}
 use Rattle.bundle.specs.Bundle.{rangesOk, holderOk, belongs, headingFault}
 use Rattle.records.specs.declared.Heading.{Heading}

@@ -1,5 +1,5 @@
 -- `holder_ok`: the two tests. Assumes nothing.
-use mathlib.Core.Path.{_≡_, refl, sym}
+use mathlib.Core.Path.{refl, sym}
 use borrow.Author.Tests.{le-ltb, lt-ltb}
 use native.Mathlib.Omega.{arith}
 use Rattle.words.proofs.Tests.{and-yes, and-no}

@@ -1,12 +1,11 @@
 -- The loop of `jobs_fault`: the places passed have no fault. Assumes nothing.
 use mathlib.Core.Path.{_≡_, sym, _∙_}
-use Prim.Native.Nat.{ℕ, _+_, _-_, _*_, _≤_}
+use Prim.Native.Nat.{_+_, _-_, _≤_}
 use lib.ListN.{length}
 use native.Mathlib.Omega.{arith}
 use denote.Ref.{now}
-use Rattle.words.specs.Refusal.{firstOf}
 use Rattle.records.specs.Layout.{recordSize}
-use Rattle.bundle.specs.Bundle.{numOf, jobFault, jobFaultAt}
+use Rattle.bundle.specs.Bundle.{numOf, jobFaultAt}
 use Rattle.records.proofs.Lengths.{known-job-min}
 use Rattle.bundle.proofs.Headings.{job-ok}
 use Rattle.bundle.proofs.Files.{JobsAt, jobs-start, jobs-stop, jobs-next}

@@ -1,6 +1,6 @@
 -- `same_params`: equal parameters would pass each test that failed. Assumes nothing.
 use mathlib.Core.Path.{_≡_, sym, ap}
-use mathlib.Core.Bool.{true, false}
+use mathlib.Core.Bool.{false}
 use borrow.Author.Tests.{eq-eqb, eqb-true}
 use Rattle.words.specs.declared.Params.{Params}
 use Rattle.words.proofs.Tests.{not-held, same-test}

@@ -1,7 +1,7 @@
 -- `fetch_body`: each return is a case of the fetch. Assumes nothing.
-use mathlib.Core.Path.{_≡_, sym, ap, ap₂, _∙_}
-use Prim.Native.Nat.{ℕ, _+_, _-_, _*_, _≤_, _<_}
-use mathlib.Core.List.{List, []}
+use mathlib.Core.Path.{_≡_, sym, ap, _∙_}
+use Prim.Native.Nat.{ℕ, _+_, _-_, _≤_, _<_}
+use mathlib.Core.List.{List}
 use borrow.Author.Needs.{needs}
 use borrow.Author.Tests.{lt-ltb, le-ltb}
 use native.Mathlib.Nat.{add-sub-cancel-left}
@@ -14,7 +14,7 @@ use Rattle.words.proofs.Refusal.{unless-yes, unless-no}
 use Rattle.records.specs.Num.{part}
 use Rattle.records.specs.Layout.{bodyAt, recordSize, bodySize, jobLen}
 use Rattle.bundle.specs.Bundle.{bundleHeading, bundleFault, filesOf, jobAt}
-use Rattle.fetch.specs.Fetch.{fileOf, bodyFault, bodyOf}
+use Rattle.fetch.specs.Fetch.{fileOf, bodyFault}
 use Rattle.records.specs.declared.Heading.{Heading}
 use Rattle.records.proofs.Lengths.{job-length-low}
 use Rattle.bundle.proofs.Files.{files-are, refused-is}

@@ -1,16 +1,15 @@
 -- `fetch_body_fault`: each return is a case of the fetch. Assumes nothing.
 use mathlib.Core.Path.{_≡_, sym, ap, _∙_}
-use Prim.Native.Nat.{ℕ, _≤_, _<_}
+use Prim.Native.Nat.{ℕ}
 use mathlib.Core.List.{List}
 use borrow.Author.Needs.{needs}
 use borrow.Author.Tests.{lt-ltb, le-ltb}
-use native.Mathlib.Omega.{arith}
 use lib.Dec.{ltb}
 use denote.Ref.{now}
 use Rattle.words.specs.Refusal.{unless}
 use Rattle.words.proofs.Refusal.{unless-yes, unless-no}
 use Rattle.bundle.specs.Bundle.{bundleFault, filesOf}
-use Rattle.fetch.specs.Fetch.{bodyFault, fileOf}
+use Rattle.fetch.specs.Fetch.{bodyFault}
 use Rattle.records.specs.declared.Heading.{Heading}
 use Rattle.bundle.proofs.Files.{files-are, refused-is}
 use Rattle.bundle.proofs.Accepted.{accepted, bundle-within}

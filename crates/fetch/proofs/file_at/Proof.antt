@@ -1,9 +1,9 @@
 -- `file_at`: a product that does not overflow. Assumes nothing.
-use mathlib.Core.Path.{_≡_, ap}
+use mathlib.Core.Path.{ap}
 use Prim.Native.Nat.{ℕ, _+_, _*_, _≤_}
 use borrow.Author.Needs.{needs}
 use native.Mathlib.Omega.{arith}
-use Rattle.records.specs.Layout.{orderSize, fileSize}
+use Rattle.records.specs.Layout.{orderSize}
 use Rattle.records.proofs.Lengths.{files-high}
 use Rattle.fetch.proofs.file_at.Statement.{statement}
 use Rattle.fetch.proofs.file_at.Tie as tie

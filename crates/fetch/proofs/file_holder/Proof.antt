@@ -1,11 +1,8 @@
 -- `file_holder`: the file is within the bytes of an accepted bundle. Assumes nothing.
 use mathlib.Core.Path.{_≡_, sym, ap, _∙_}
-use Prim.Native.Nat.{ℕ, _+_, _*_, _≤_}
+use Prim.Native.Nat.{ℕ}
 use mathlib.Core.List.{List}
-use native.Mathlib.Omega.{arith}
-use lib.ListN.{length}
 use denote.Ref.{now}
-use Rattle.records.specs.Layout.{headSize}
 use Rattle.records.specs.Record.{headingOf}
 use Rattle.bundle.specs.Bundle.{fileAt}
 use Rattle.records.specs.declared.Heading.{Heading}

@@ -5,9 +5,8 @@ use mathlib.Core.List.{List}
 use native.Mathlib.Omega.{arith}
 use lib.ListN.{length}
 use denote.Ref.{now}
-use Rattle.records.specs.Layout.{headSize, fileSize, orderSize}
-use Rattle.records.specs.Record.{headingOf}
-use Rattle.bundle.specs.Bundle.{bundleHeading, filesOf, fileAt}
+use Rattle.records.specs.Layout.{fileSize, orderSize}
+use Rattle.bundle.specs.Bundle.{bundleHeading, filesOf}
 use Rattle.records.specs.declared.Heading.{Heading}
 use Rattle.bundle.proofs.Accepted.{Accepted, accepted, bundle-ranges, bundle-within, file-within, heading-within}
 use Rattle.fetch.proofs.Fetch.{FindAt, find-start, find-yes, find-next, find-no}

@@ -3,7 +3,7 @@ use mathlib.Core.Path.{_≡_, ap, ap₂, _∙_}
 use Prim.Native.Nat.{ℕ, _+_, _*_, _≤_}
 use borrow.Author.Needs.{needs}
 use native.Mathlib.Omega.{arith}
-use Rattle.records.specs.Layout.{recordSize, headSize, jobSize, orderSize, fileSize}
+use Rattle.records.specs.Layout.{recordSize, jobSize, orderSize, fileSize}
 use Rattle.records.proofs.Lengths.{files-high, head-high, job-high, jobs-high}
 use Rattle.fetch.proofs.job_at.Statement.{statement}
 use Rattle.fetch.proofs.job_at.Tie as tie

@@ -1,10 +1,10 @@
 -- The loop of `load_words`: the first i words are in their places. Assumes nothing.
 use mathlib.Core.Path.{_≡_, refl, sym, ap, _∙_}
-use Prim.Native.Nat.{ℕ, _+_, _-_, _*_, _≤_}
+use Prim.Native.Nat.{_+_, _-_, _*_, _≤_}
 use native.Mathlib.Nat.{zero-add}
 use native.Mathlib.Omega.{arith}
 use borrow.Author.Needs.{needs}
-use lib.ListN.{length, getD, drop, replicate}
+use lib.ListN.{replicate}
 use lib.Seq.{paste}
 use denote.Ref.{now}
 use Rattle.words.proofs.Fill.{fill-next, fill-within}

@@ -1,7 +1,5 @@
 -- The loop of `changes` stays within the case. Assumes nothing.
-use native.Mathlib.Omega.{arith}
-use lib.ListN.{length}
-use Prim.Native.Nat.{ℕ, _+_, _-_, _≤_, _<_}
+use Prim.Native.Nat.{_-_, _≤_}
 use borrow.Author.Needs.{needs}
 use Rattle.formats.proofs.changes.Statement.{statement}
 use Rattle.formats.proofs.changes.Tie as tie

@@ -1,7 +1,5 @@
 -- The loop of `decode` stays within the room. Assumes nothing.
-use native.Mathlib.Omega.{arith}
-use lib.ListN.{length}
-use Prim.Native.Nat.{ℕ, _+_, _-_, _≤_, _<_}
+use Prim.Native.Nat.{_-_, _≤_}
 use borrow.Author.Needs.{needs}
 use Rattle.formats.proofs.decode.Statement.{statement}
 use Rattle.formats.proofs.decode.Tie as tie

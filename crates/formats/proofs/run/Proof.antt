@@ -1,7 +1,6 @@
 -- The loop of `run` stays within the text. Assumes nothing.
-use native.Mathlib.Omega.{arith}
 use lib.ListN.{length}
-use Prim.Native.Nat.{ℕ, _+_, _-_, _≤_, _<_}
+use Prim.Native.Nat.{_+_, _-_, _≤_}
 use borrow.Author.Needs.{needs}
 use Rattle.formats.proofs.run.Statement.{statement}
 use Rattle.formats.proofs.run.Tie as tie

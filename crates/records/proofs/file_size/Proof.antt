@@ -1,9 +1,9 @@
 -- `file_size` gives the bytes of a file. Assumes nothing.
-use mathlib.Core.Path.{_≡_, ap, ap₂, _∙_}
+use mathlib.Core.Path.{_≡_, ap, ap₂}
 use Prim.Native.Nat.{ℕ, _+_, _*_, _≤_}
 use borrow.Author.Needs.{needs}
 use native.Mathlib.Omega.{arith}
-use Rattle.records.specs.Layout.{recordSize, headSize, jobLen, jobSize, fileSize}
+use Rattle.records.specs.Layout.{recordSize, jobSize, fileSize}
 use Rattle.records.proofs.Lengths.{job-high, jobs-high, head-high}
 use Rattle.records.proofs.file_size.Statement.{statement}
 use Rattle.records.proofs.file_size.Tie as tie

@@ -1,10 +1,8 @@
 -- `known_job_length` tests a job record's length: the tests that led to each return. Assumes nothing.
-use mathlib.Core.Path.{_≡_, sym}
-use mathlib.Core.Bool.{true, false}
+use mathlib.Core.Path.{sym}
 use borrow.Author.Tests.{le-leb, leb-true}
 use native.Mathlib.Omega.{arith}
 use Rattle.words.proofs.Tests.{not-held, same-test}
-use Rattle.records.specs.Layout.{jobLenKnown}
 use Rattle.records.proofs.Lengths.{job-length-yes, job-length-facts}
 use Rattle.records.proofs.known_job_length.Statement.{statement}
 use Rattle.records.proofs.known_job_length.Tie as tie

@@ -1,8 +1,8 @@
 -- `known_length` tests a kind and a length: the tests that led to each return. Assumes nothing.
-use mathlib.Core.Path.{_∙_, sym}
+use mathlib.Core.Path.{_∙_}
 use mathlib.Core.Bool.{or-false}
 use borrow.Author.Needs.{needs}
-use borrow.Author.Tests.{eq-eqb, ne-eqb}
+use borrow.Author.Tests.{ne-eqb}
 use Rattle.records.specs.Layout.{known}
 use Rattle.records.proofs.known_length.Statement.{statement}
 use Rattle.records.proofs.known_length.Tie as tie

@@ -1,11 +1,11 @@
 -- The loop of `number`: x is the number in the bytes from i on. Assumes nothing.
-use mathlib.Core.Path.{_≡_, sym, _∙_}
-use Prim.Native.Nat.{ℕ, _+_, _-_, _*_, _≤_, _<_, _^_}
+use mathlib.Core.Path.{_≡_, sym}
+use Prim.Native.Nat.{_+_, _-_, _≤_, _<_, _^_}
 use borrow.Author.Needs.{needs}
 use native.Mathlib.Omega.{arith}
-use lib.ListN.{length, getD, drop}
+use lib.ListN.{drop}
 use Rattle.records.specs.Num.{part, leNum, leAt}
-use Rattle.records.proofs.Num.{Bytes, part-bytes, part-length, leNum-lt, number-step, number-none, number-small}
+use Rattle.records.proofs.Num.{number-step, number-none, number-small}
 use denote.Ref.{now}
 use Rattle.records.proofs.number.Statement.{statement}
 use Rattle.records.proofs.number.Tie as tie

@@ -1,6 +1,5 @@
 -- `files_fault`: the number of each answer of the check. Assumes nothing.
-use mathlib.Core.Path.{_≡_, sym, _∙_}
-use Prim.Native.Nat.{ℕ}
+use mathlib.Core.Path.{sym, _∙_}
 use borrow.Author.Needs.{needs}
 use denote.Ref.{now}
 use Rattle.bundle.specs.Bundle.{filesFault, filesIn}

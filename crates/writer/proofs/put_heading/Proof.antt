@@ -1,18 +1,17 @@
 -- `put_heading`: its pieces, one after another. Assumes nothing.
 use mathlib.Core.Path.{_≡_, refl, sym, ap, ap₂, _∙_}
 use Prim.Native.Nat.{ℕ, _+_, _^_, _≤_, _<_}
-use mathlib.Core.List.{List, [], _∷_, _++_}
+use mathlib.Core.List.{[], _∷_, _++_}
 use borrow.Author.Needs.{needs}
 use native.Mathlib.Nat.{pow-le-pow-right}
 use native.Mathlib.Omega.{arith}
 use lib.ListN.{length, length-append}
 use lib.Dec.{lit<}
 use denote.Ref.{now}
-use Rattle.words.proofs.InRange.{InRange}
 use Rattle.records.specs.Num.{leBytes}
 use Rattle.records.specs.Layout.{recordSize, headKind, headLen, headSize}
 use Rattle.records.proofs.Num.{length-leBytes}
-use Rattle.bundle.proofs.Headings.{Ranges, ok-ranges, ok-holder}
+use Rattle.bundle.proofs.Headings.{ok-ranges, ok-holder}
 use Rattle.writer.specs.Bytes.{headingBytes}
 use Rattle.writer.proofs.Put.{Written, written-none, written-more, written-byte, written-number, written-end, prefix-length}
 use Rattle.writer.proofs.Fits.{heading-length}

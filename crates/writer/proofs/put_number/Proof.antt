@@ -1,7 +1,6 @@
 -- The loop of `put_number`: the bytes before i are written. Assumes nothing.
-use Prim.Native.Nat.{ℕ, _+_, _-_, _≤_}
+use Prim.Native.Nat.{_-_}
 use native.Mathlib.Omega.{arith}
-use lib.ListN.{length}
 use denote.Ref.{now}
 use Rattle.writer.proofs.Put.{PutAt, put-start, put-length, put-done, put-next}
 use Rattle.writer.proofs.put_number.Statement.{statement}

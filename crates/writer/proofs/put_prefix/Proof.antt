@@ -1,14 +1,12 @@
 -- `put_prefix`: two numbers, one after the other. Assumes nothing.
-use mathlib.Core.Path.{_≡_, sym}
-use Prim.Native.Nat.{ℕ, _+_, _≤_}
-use mathlib.Core.List.{List, [], _++_}
+use Prim.Native.Nat.{_+_}
+use mathlib.Core.List.{[], _++_}
 use borrow.Author.Needs.{needs}
 use native.Mathlib.Omega.{arith}
-use lib.ListN.{length}
 use denote.Ref.{now}
 use Rattle.records.specs.Num.{leBytes}
 use Rattle.records.proofs.Num.{length-leBytes}
-use Rattle.writer.proofs.Put.{Written, written-none, written-number, written-end, prefix-length}
+use Rattle.writer.proofs.Put.{written-none, written-number, written-end, prefix-length}
 use Rattle.writer.proofs.put_prefix.Statement.{statement}
 use Rattle.writer.proofs.put_prefix.Tie as tie
 

@@ -1,12 +1,11 @@
 -- `sizes_ok`: the two tests, and a product that does not overflow. Assumes nothing.
-use mathlib.Core.Path.{_≡_, refl, sym, ap, _∙_}
-use Prim.Native.Nat.{ℕ, _+_, _*_, _≤_}
+use mathlib.Core.Path.{refl, sym, ap, _∙_}
+use Prim.Native.Nat.{ℕ, _*_, _≤_}
 use native.Mathlib.Nat.{mul-le-mul}
 use native.Mathlib.Omega.{arith}
 use borrow.Author.Tests.{eq-eqb, ne-eqb}
 use lib.Dec.{eqb}
 use Rattle.words.proofs.Tests.{and-yes, and-no}
-use Rattle.records.specs.Layout.{fileSize}
 use Rattle.bundle.proofs.Headings.{Ranges, ok-ranges}
 use Rattle.writer.specs.Write.{sizesOk}
 use Rattle.writer.proofs.sizes_ok.Statement.{statement}

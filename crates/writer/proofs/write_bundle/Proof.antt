@@ -1,6 +1,6 @@
 -- `write_bundle`: declined, or the order and then the files. Assumes nothing.
-use mathlib.Core.Path.{_≡_, refl, sym, ap, _∙_}
-use Prim.Native.Nat.{ℕ, _+_, _≤_}
+use mathlib.Core.Path.{_≡_, refl, sym, _∙_}
+use Prim.Native.Nat.{ℕ, _+_}
 use mathlib.Core.List.{List, [], _++_}
 use borrow.Author.Needs.{needs}
 use borrow.Author.Tests.{eq-eqb, ne-eqb}
@@ -8,7 +8,7 @@ use native.Mathlib.Omega.{arith}
 use lib.ListN.{length, length-append}
 use lib.Dec.{eqb}
 use denote.Ref.{now}
-use Rattle.words.specs.Refusal.{first, kept, unless}
+use Rattle.words.specs.Refusal.{kept, unless}
 use Rattle.words.proofs.Refusal.{first-some, first-none, unless-yes, unless-no, kept-none, kept-some}
 use Rattle.records.specs.Layout.{orderSize}
 use Rattle.bundle.specs.Bundle.{filesFault, bundleFault}

@@ -1,19 +1,17 @@
 -- `write_fault`: each return is a case of the fault. Assumes nothing.
 use mathlib.Core.Path.{_≡_, sym, ap, _∙_}
-use Prim.Native.Nat.{ℕ, _≤_}
-use mathlib.Core.Bool.{true, false}
+use Prim.Native.Nat.{ℕ}
+use mathlib.Core.Bool.{true}
 use mathlib.Core.List.{List}
 use borrow.Author.Needs.{needs}
 use borrow.Author.Tests.{not-true, not-false}
-use native.Mathlib.Omega.{arith}
 use lib.ListN.{length}
 use denote.Ref.{now}
 use Rattle.words.specs.Refusal.{unless}
-use Rattle.words.specs.Word.{allInWidth}
 use Rattle.words.proofs.Refusal.{unless-yes, unless-no}
 use Rattle.bundle.specs.Bundle.{rangesOk, holderOk}
 use Rattle.bundle.proofs.Headings.{ok-ranges}
-use Rattle.writer.specs.Write.{sizesOk, rising, writeFault}
+use Rattle.writer.specs.Write.{sizesOk, writeFault}
 use Rattle.writer.proofs.Calls.{write-1, write-2, write-4, write-7, write-3}
 use Rattle.writer.proofs.write_fault.Statement.{statement}
 use Rattle.writer.proofs.write_fault.Tie as tie

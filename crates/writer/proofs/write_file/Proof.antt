@@ -1,19 +1,19 @@
 -- `write_file`: declined, or the heading and then the jobs. Assumes nothing.
-use mathlib.Core.Path.{_≡_, refl, sym, ap, ap₂, _∙_}
-use Prim.Native.Nat.{ℕ, zero, suc, _+_, _*_, _≤_}
+use mathlib.Core.Path.{_≡_, refl, sym, ap, _∙_}
+use Prim.Native.Nat.{ℕ, _+_, _*_, _≤_}
 use mathlib.Core.List.{List, [], _++_}
 use borrow.Author.Needs.{needs}
 use native.Mathlib.Omega.{arith}
-use lib.ListN.{length, take, drop, length-append}
+use lib.ListN.{length, length-append}
 use denote.Ref.{now}
 use Rattle.words.specs.Refusal.{kept}
 use Rattle.words.proofs.Refusal.{kept-none, kept-some}
 use Rattle.records.specs.Layout.{headSize, jobSize, fileSize}
 use Rattle.records.specs.declared.Heading.{Heading}
 use Rattle.records.proofs.Lengths.{file-low}
-use Rattle.bundle.proofs.Headings.{Ranges, ok-ranges}
+use Rattle.bundle.proofs.Headings.{ok-ranges}
 use Rattle.writer.specs.Bytes.{headingBytes, jobsBytes, fileBytes}
-use Rattle.writer.specs.Write.{headingFor, jobsOf, fileFor, writeFault, fileWriteFault}
+use Rattle.writer.specs.Write.{headingFor, jobsOf, fileFor, writeFault}
 use Rattle.writer.proofs.Put.{Written, written-none, written-more, written-all}
 use Rattle.writer.proofs.Fits.{heading-length}
 use Rattle.writer.proofs.Calls.{Writable, writable, jobs-bytes}

@@ -1,14 +1,13 @@
 -- `write_order`: declined, or the order. Assumes nothing.
-use mathlib.Core.Path.{_≡_, refl, sym, ap, _∙_}
-use Prim.Native.Nat.{ℕ, _+_, _≤_}
-use mathlib.Core.List.{List, []}
+use mathlib.Core.Path.{_≡_, refl, sym, _∙_}
+use mathlib.Core.List.{[]}
 use borrow.Author.Needs.{needs}
 use borrow.Author.Tests.{eq-eqb, ne-eqb}
 use native.Mathlib.Omega.{arith}
 use lib.ListN.{length}
 use lib.Dec.{eqb}
 use denote.Ref.{now}
-use Rattle.words.specs.Refusal.{kept, unless}
+use Rattle.words.specs.Refusal.{unless}
 use Rattle.words.proofs.Refusal.{unless-yes, unless-no}
 use Rattle.records.specs.Layout.{orderSize}
 use Rattle.writer.specs.Bytes.{orderBytes}

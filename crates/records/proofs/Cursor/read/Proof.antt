@@ -1,7 +1,7 @@
 -- `Cursor::read`: each return is a case of the read. Assumes nothing.
 use mathlib.Core.Path.{_≡_, sym, ap₂, _∙_}
-use Prim.Native.Nat.{ℕ, _+_, _-_, _≤_}
-use mathlib.Core.Bool.{true, false}
+use Prim.Native.Nat.{ℕ, _+_, _≤_}
+use mathlib.Core.Bool.{true}
 use mathlib.Core.List.{List}
 use lib.ListN.{length}
 use borrow.Author.Tests.{not-true, not-false}
@@ -9,7 +9,7 @@ use Rattle.records.specs.declared.Read.the-variants.{Record}
 use native.Mathlib.Omega.{arith}
 use denote.Ref.{now}
 use Rattle.records.specs.Layout.{bodyAt, recordSize, bodySize, known}
-use Rattle.records.specs.Record.{lenAt, kindAt, readAt}
+use Rattle.records.specs.Record.{lenAt, kindAt}
 use Rattle.records.proofs.Record.{read-end, read-short, read-unknown, read-cut, read-record}
 use Rattle.records.proofs.Lengths.{known-min}
 use borrow.Author.Needs.{needs}

@@ -1,0 +1,1 @@
+// The marked examples of paper 01: mathematics only.

@@ -1,0 +1,687 @@
+#!/usr/bin/env python3
+"""A second implementation of paper 01, for comparison: ring, dealing, opening, file writer, bundle reader, listing.
+
+Without arguments this is the program `open`: a bundle on standard input, its listing on standard output.
+`--selftest` checks the paper's examples, and three ways of opening against each other.
+
+Opening goes another way than the rise through k levels with a key equation at each:
+  open_by_definition  tries every polynomial (tiny books);
+  open_by_subsets     lays a curve through every t + 1 shares, over the ring, and counts who differs (few subsets);
+  open_by_jumps       lays one curve, jumps to the lowest bit at which a share leaves it, and decodes there with Gao.
+"""
+import itertools
+import random
+import struct
+import sys
+from collections import namedtuple
+from functools import lru_cache
+
+# "one fixed modulus for each d": the exponents of its terms below X^d.
+MODULUS = {2: (0, 1), 3: (0, 1), 4: (0, 1), 5: (0, 2), 6: (0, 1)}
+LONGEST_INPUT = 65536
+MOST_JOBS = 1000
+
+Book = namedtuple("Book", "k d n t")
+
+
+class Refused(Exception):
+    """A declined call; `number` is the paper's."""
+
+    def __init__(self, number):
+        super().__init__(f"refused {number}")
+        self.number = number
+
+
+def require(holds, number):
+    """Decline with `number` unless `holds`."""
+    if not holds:
+        raise Refused(number)
+
+
+def number_of(call, *lent):
+    """What the sister call gives: 0, or the number with which `call` declines."""
+    try:
+        call(*lent)
+    except Refused as refused:
+        return refused.number
+    return 0
+
+
+# ---------------------------------------------------------------- ring
+
+class Ring:
+    """Elements are tuples of d words: "the coefficients of a polynomial in X, constant first"."""
+
+    def __init__(self, k, d):
+        self.k, self.d, self.mask = k, d, (1 << k) - 1
+        self.zero = (0,) * d
+        self.one = (1,) + (0,) * (d - 1)
+
+    def add(self, a, b):
+        """ "Sums are taken word by word modulo 2^k." """
+        return tuple((x + y) & self.mask for x, y in zip(a, b))
+
+    def sub(self, a, b):
+        return tuple((x - y) & self.mask for x, y in zip(a, b))
+
+    def mul(self, a, b):
+        """ "Products are reduced modulo 2^k and one fixed modulus for each d." """
+        product = [0] * (2 * self.d - 1)
+        for i, x in enumerate(a):
+            if x:
+                for j, y in enumerate(b):
+                    product[i + j] += x * y
+        for i in range(2 * self.d - 2, self.d - 1, -1):
+            for j in MODULUS[self.d]:
+                product[i - self.d + j] -= product[i]
+        return tuple(x & self.mask for x in product[:self.d])
+
+    def power(self, a, exponent):
+        result = self.one
+        while exponent:
+            if exponent & 1:
+                result = self.mul(result, a)
+            a = self.mul(a, a)
+            exponent >>= 1
+        return result
+
+    def inverse(self, a):
+        """ "An element has an inverse when it is not zero modulo 2; for one that is, the inverse call gives zero."
+
+        b = a^(2^d - 2) is an inverse modulo 2, so ab = 1 - u with u even, and 1 / (1 - u) = (1 + u)(1 + u^2)(1 + u^4)..,
+        where u^64 is zero.
+        """
+        if all(x % 2 == 0 for x in a):
+            return self.zero
+        result = self.power(a, 2**self.d - 2)
+        u = self.sub(self.one, self.mul(a, result))
+        for _ in range(6):
+            result = self.mul(result, self.add(self.one, u))
+            u = self.mul(u, u)
+        return result
+
+    def point(self, holder):
+        """ "Holder i has the point whose word j is bit j of i"; 0 gives the point 0, which is no holder's."""
+        return tuple(holder >> j & 1 for j in range(self.d))
+
+    def value(self, polynomial, x):
+        """ "The sum of the free term, the second coefficient times the point, the third times the point's square .." """
+        result, power = self.zero, self.one
+        for coefficient in polynomial:
+            result = self.add(result, self.mul(coefficient, power))
+            power = self.mul(power, x)
+        return result
+
+    def in_width(self, words):
+        """ "A word is in width when it is below 2^k." """
+        return all(0 <= x <= self.mask for x in words)
+
+    def signed(self, word):
+        """ "A word w below 2^(k-1) means w; otherwise w - 2^k." """
+        return word if word < 1 << self.k - 1 else word - (1 << self.k)
+
+
+ring_of = lru_cache(None)(Ring)
+
+
+def check_book(book, jobs=0):
+    """1 | "k, d, n, t or J is outside its range"."""
+    k, d, n, t = book
+    require(1 <= k <= 64 and 2 <= d <= 6 and 1 <= n <= 2**d - 1 and 0 <= t <= n - 1 and jobs <= MOST_JOBS, 1)
+
+
+def elements(flat, d):
+    """A flat list of words as elements of d words."""
+    return [tuple(flat[i:i + d]) for i in range(0, len(flat), d)]
+
+
+def deal(book, job, coefficients):
+    """The n shares of `job`; the t further coefficients of the dealing polynomial are lent. Order 1, 2, 3."""
+    check_book(book)
+    ring = ring_of(book.k, book.d)
+    polynomial = [tuple(job)] + [tuple(c) for c in coefficients]
+    require(len(polynomial) == book.t + 1 and all(len(c) == book.d for c in polynomial), 2)
+    require(all(map(ring.in_width, polynomial)), 3)
+    return {i: ring.value(polynomial, ring.point(i)) for i in range(1, book.n + 1)}
+
+
+# ---------------------------------------------------------------- curves through shares, over the ring
+
+@lru_cache(None)
+def inverse_difference(k, d, i, j):
+    """ "The difference of two points, or of a point and 0, has an inverse." """
+    ring = ring_of(k, d)
+    return ring.inverse(ring.sub(ring.point(i), ring.point(j)))
+
+
+@lru_cache(1 << 12)
+def denominators(k, d, holders):
+    """For each i of `holders` the product of 1 / (x_i - x_j) over the others."""
+    ring, result = ring_of(k, d), []
+    for i in holders:
+        product = ring.one
+        for j in holders:
+            if j != i:
+                product = ring.mul(product, inverse_difference(k, d, i, j))
+        result.append(product)
+    return result
+
+
+@lru_cache(1 << 14)
+def weights(k, d, holders, x):
+    """Lagrange's weights of the values at `holders` in the value at x, a further holder or 0."""
+    ring = ring_of(k, d)
+    whole = ring.one
+    for j in holders:
+        whole = ring.mul(whole, ring.sub(ring.point(x), ring.point(j)))
+    return [ring.mul(ring.mul(whole, inverse_difference(k, d, x, i)), denominator)
+            for i, denominator in zip(holders, denominators(k, d, holders))]
+
+
+def through(ring, shares, holders, x):
+    """The value at x of the polynomial of degree below len(holders) that meets the shares of `holders`."""
+    if x in holders:
+        return shares[x]
+    result = ring.zero
+    for i, weight in zip(holders, weights(ring.k, ring.d, holders, x)):
+        result = ring.add(result, ring.mul(weight, shares[i]))
+    return result
+
+
+# ---------------------------------------------------------------- opening: each gives (words, wrong holders) or None
+
+def open_by_definition(ring, t, shares, e):
+    """The words of 6: a "polynomial of degree at most t" that "differs from e shares or fewer"; every one is tried."""
+    every = list(itertools.product(range(ring.mask + 1), repeat=ring.d))
+    for polynomial in itertools.product(every, repeat=t + 1):
+        wrong = [i for i in shares if ring.value(polynomial, ring.point(i)) != shares[i]]
+        if len(wrong) <= e:
+            return polynomial[0], wrong
+    return None
+
+
+def open_by_subsets(ring, t, shares, e):
+    """A polynomial that differs from at most e of t + 1 + 2e shares meets t + 1 of them, and these fix it."""
+    for holders in itertools.combinations(shares, t + 1):
+        wrong = []
+        for i in shares:
+            if shares[i] != through(ring, shares, holders, i):
+                wrong.append(i)
+                if len(wrong) > e:
+                    break
+        else:
+            return through(ring, shares, holders, 0), wrong
+    return None
+
+
+def open_by_jumps(ring, t, shares, e):
+    """Lay a curve F through the first t + 1 shares still in. If at most the allowance differ, it is the answer.
+
+    Otherwise let v be the lowest bit at which a share leaves F. A polynomial P within the allowance meets t + 1
+    shares, so P = F + 2^v G, and G modulo 2 is within the allowance of (share - F) / 2^v modulo 2: a word that Gao
+    decodes. The shares wrong there are dropped "and the allowance falls by their number". At least one falls, as
+    the word is zero at t + 1 points but not everywhere, and a word of degree at most t cannot be so.
+    """
+    inside, allowance = dict(shares), e
+    while True:
+        holders = tuple(inside)[:t + 1]
+        gaps = {i: ring.sub(share, through(ring, inside, holders, i)) for i, share in inside.items()}
+        if sum(any(gap) for gap in gaps.values()) <= allowance:
+            wrong = [i for i in shares if i not in inside or any(gaps[i])]
+            return through(ring, inside, holders, 0), wrong
+        v = min(lowest_bit(word) for gap in gaps.values() for word in gap if word)
+        word = {i: sum((gap[j] >> v & 1) << j for j in range(ring.d)) for i, gap in gaps.items()}
+        wrong = gao(field_of(ring.d), t, word, allowance)
+        if wrong is None:
+            return None
+        assert wrong, "a level that is decoded drops a share"
+        allowance -= len(wrong)
+        for i in wrong:
+            del inside[i]
+
+
+def lowest_bit(number):
+    return (number & -number).bit_length() - 1
+
+
+class Field:
+    """The field of 2^d elements; bit j of an element is its word j. X generates it for each of the five moduli."""
+
+    def __init__(self, d):
+        self.order = 2**d - 1
+        modulus = 2**d + sum(1 << j for j in MODULUS[d])
+        self.exp, x = [], 1
+        for _ in range(self.order):
+            self.exp.append(x)
+            x <<= 1
+            if x >> d:
+                x ^= modulus
+        self.log = {x: i for i, x in enumerate(self.exp)}
+        assert len(self.log) == self.order
+
+    def mul(self, a, b):
+        return self.exp[(self.log[a] + self.log[b]) % self.order] if a and b else 0
+
+    def div(self, a, b):
+        return self.exp[(self.log[a] - self.log[b]) % self.order] if a else 0
+
+    def value(self, polynomial, x):
+        result = 0
+        for coefficient in reversed(polynomial):
+            result = self.mul(result, x) ^ coefficient
+        return result
+
+    def product(self, f, g):
+        """Of polynomials, as lists with the free term first and no zero at the end."""
+        result = [0] * (len(f) + len(g) - 1 if f and g else 0)
+        for i, a in enumerate(f):
+            for j, b in enumerate(g):
+                result[i + j] ^= self.mul(a, b)
+        return trimmed(result)
+
+    def divided(self, f, g):
+        """Quotient and remainder of polynomials."""
+        rest, quotient = list(f), [0] * max(0, len(f) - len(g) + 1)
+        for shift in range(len(f) - len(g), -1, -1):
+            quotient[shift] = self.div(rest[shift + len(g) - 1], g[-1])
+            for i, b in enumerate(g):
+                rest[shift + i] ^= self.mul(quotient[shift], b)
+        return trimmed(quotient), trimmed(rest)
+
+
+field_of = lru_cache(None)(Field)
+
+
+def trimmed(f):
+    while f and not f[-1]:
+        f.pop()
+    return f
+
+
+def plus(f, g):
+    return trimmed([a ^ b for a, b in itertools.zip_longest(f, g, fillvalue=0)])
+
+
+def gao(field, t, word, e):
+    """The holders at which `word` differs from the polynomial of degree at most t that is within e of it, or None.
+
+    The remainders of the extended Euclid of prod(x - x_i) and the interpolation of the whole word are followed to the
+    first of degree below (m + t + 1) / 2; it is the locator, its cofactor, times the polynomial looked for.
+    """
+    m, everywhere = len(word), [1]
+    for i in word:
+        everywhere = field.product(everywhere, [i, 1])
+    interpolation = []
+    for i, y in word.items():
+        others, _ = field.divided(everywhere, [i, 1])
+        factor = field.div(y, field.value(others, i))
+        interpolation = plus(interpolation, field.product([factor] if factor else [], others))
+    (r0, v0), (r1, v1) = (everywhere, []), (interpolation, [1])
+    while 2 * (len(r1) - 1) >= m + t + 1:
+        quotient, rest = field.divided(r0, r1)
+        (r0, v0), (r1, v1) = (r1, v1), (rest, plus(v0, field.product(quotient, v1)))
+    answer, rest = field.divided(r1, v1)
+    if rest or len(answer) > t + 1:
+        return None
+    wrong = [i for i, y in word.items() if field.value(answer, i) != y]
+    return wrong if len(wrong) <= e else None
+
+
+def open_shares(book, shares, e):
+    """Words and wrong holders from {holder: words}. Order 3, 5, 6; what is a fault of the book or list is judged before."""
+    ring = ring_of(book.k, book.d)
+    require(all(map(ring.in_width, shares.values())), 3)
+    require(len(shares) >= book.t + 1 + 2 * e, 5)
+    answer = open_by_jumps(ring, book.t, shares, e)
+    require(answer is not None, 6)
+    return answer
+
+
+def open_lent(book, holders, words, e):
+    """Opening of lent shares: d words for each lent holder. "Order outside files: 1, 2, 4, 7, 3, 5, 6." """
+    check_book(book)
+    require(len(words) == len(holders) * book.d, 2)
+    require(all(1 <= i <= book.n for i in holders) and all(a < b for a, b in zip(holders, holders[1:])), 4)
+    return open_shares(book, dict(zip(holders, elements(words, book.d))), e)
+
+
+# ---------------------------------------------------------------- bytes of a file
+
+HEADING, JOB, ORDER = 1, 2, 16
+LENGTHS = {HEADING: {19}, JOB: {10 + 8 * d for d in MODULUS}, ORDER: {3}}
+
+
+def record(kind, body):
+    """ "A 4-byte length, then a 2-byte kind, then a body, all little-endian. The length counts kind and body." """
+    return struct.pack("<IH", 2 + len(body), kind) + body
+
+
+def order(e):
+    return record(ORDER, bytes([e]))
+
+
+def heading(book, holder, archive, jobs):
+    """ "k, d, n, t, holder (a byte each), archive number (8 bytes), job count J (4 bytes)." """
+    return record(HEADING, struct.pack("<5BQI", *book, holder, archive, jobs))
+
+
+def job(number, words):
+    """ "Job number (8 bytes), then d words of 8 bytes." """
+    return record(JOB, struct.pack(f"<{1 + len(words)}Q", number, *words))
+
+
+def write_file(book, holder, archive, numbers, words):
+    """The file of one holder; order 1, 2, 4, 7, 3."""
+    check_book(book, len(numbers))
+    require(len(words) == len(numbers) * book.d, 2)
+    require(1 <= holder <= book.n, 4)
+    require(all(a < b for a, b in zip(numbers, numbers[1:])), 7)
+    require(ring_of(book.k, book.d).in_width(words), 3)
+    return heading(book, holder, archive, len(numbers)) + b"".join(map(job, numbers, elements(words, book.d)))
+
+
+def read_record(data, at):
+    """Kind, body and the moved cursor, or None at the end; the read "judges nothing else"."""
+    require(at <= len(data), 7)
+    if at == len(data):
+        return None
+    require(len(data) - at >= 6, 7)
+    length, kind = struct.unpack_from("<IH", data, at)
+    require(kind in LENGTHS and length in LENGTHS[kind] and len(data) - at >= 4 + length, 7)
+    return kind, data[at + 6:at + 4 + length], at + 4 + length
+
+
+class Bundle:
+    """A bundle read whole: e, book, archive, job numbers, and the job bodies of each file under its holder.
+
+    "The first fault in byte order counts; inside one heading the order is 7, 1, 4, 8, and inside one job 7, 8."
+    """
+
+    def __init__(self, data):
+        (self.e,), at = self.expect(data, 0, ORDER)
+        self.first, self.numbers, self.files = None, None, {}
+        while at < len(data) or not self.files:  # "a bundle has no file": 7, as the heading is missing
+            at = self.read_file(data, at)
+
+    @staticmethod
+    def expect(data, at, kind):
+        """The record that the sequence asks for; any other, or the end, is 7."""
+        read = read_record(data, at)
+        require(read is not None and read[0] == kind, 7)
+        return read[1:]
+
+    def read_file(self, data, at):
+        body, at = self.expect(data, at, HEADING)
+        k, d, n, t, holder, archive, jobs = struct.unpack("<5BQI", body)
+        book = Book(k, d, n, t)
+        check_book(book, jobs)
+        require(max(self.files, default=0) < holder <= n, 4)
+        self.first = self.first or (book, archive, jobs)
+        require(self.first == (book, archive, jobs), 8)
+        bodies, numbers = [], []
+        for place in range(jobs):
+            body, at = self.expect(data, at, JOB)
+            require(len(body) == 8 + 8 * d, 7)
+            number, = struct.unpack_from("<Q", body)
+            require(not numbers or numbers[-1] < number, 7)
+            require(self.numbers is None or self.numbers[place] == number, 8)
+            bodies.append(body)
+            numbers.append(number)
+        self.numbers = numbers
+        self.files[holder] = bodies
+        return at
+
+    @property
+    def book(self):
+        return self.first[0]
+
+    def words(self, holder, place):
+        return struct.unpack_from(f"<{self.book.d}Q", self.files[holder][place], 8)
+
+    def shares(self, place):
+        """ "The shares present for a job of a bundle are the d words of that job in each of its files." """
+        return {holder: self.words(holder, place) for holder in self.files}
+
+    def total(self, holder, a, b):
+        """The sum of one file's shares over the places a to b - 1; a word of them out of width gives 3."""
+        ring, total = ring_of(self.book.k, self.book.d), (0,) * self.book.d
+        for place in range(a, b):
+            require(ring.in_width(self.words(holder, place)), 3)
+            total = ring.add(total, self.words(holder, place))
+        return total
+
+    def check_run(self, a, b):
+        """9 | "a run from a to b has a above b, or b above J"."""
+        require(a <= b <= len(self.numbers), 9)
+
+
+def fetch(data, holder, place):
+    """The body of a job record, by holder and place. Order: the bundle's faults, 4, 9."""
+    bundle = Bundle(data)
+    require(holder in bundle.files, 4)
+    require(place < len(bundle.numbers), 9)
+    return bundle.files[holder][place]
+
+
+def total(data, holder, a, b):
+    """One holder's sum over a run. Order: the bundle's faults, 4, 9, 3."""
+    bundle = Bundle(data)
+    require(holder in bundle.files, 4)
+    bundle.check_run(a, b)
+    return bundle.total(holder, a, b)
+
+
+def open_place(data, place):
+    """Words and wrong holders of one job. Order: the bundle's faults, 9, 3, 5, 6."""
+    bundle = Bundle(data)
+    require(place < len(bundle.numbers), 9)
+    return open_shares(bundle.book, bundle.shares(place), bundle.e)
+
+
+def open_run(data, a, b):
+    """ "Each file's shares over it are added and the sums opened as one job's shares, with the bundle's e." """
+    bundle = Bundle(data)
+    bundle.check_run(a, b)
+    return open_shares(bundle.book, {i: bundle.total(i, a, b) for i in bundle.files}, bundle.e)
+
+
+# ---------------------------------------------------------------- the program
+
+def joined(numbers):
+    return ",".join(map(str, numbers)) or "-"
+
+
+def job_line(bundle, place):
+    """ "Job number; `open` or the number 3, 5 or 6; wrong holders rising, or `-`; the signed words, or `-`." """
+    try:
+        words, wrong = open_shares(bundle.book, bundle.shares(place), bundle.e)
+    except Refused as refused:
+        return f"{bundle.numbers[place]} {refused.number} - -"
+    signed = ring_of(bundle.book.k, bundle.book.d).signed
+    return f"{bundle.numbers[place]} open {joined(wrong)} {joined(map(signed, words))}"
+
+
+def listing(data):
+    """What the program prints; "input that is too long gives 2 before any record is looked at"."""
+    try:
+        require(len(data) <= LONGEST_INPUT, 2)
+        bundle = Bundle(data)
+    except Refused as refused:
+        return f"refused {refused.number}\n"
+    lines = [job_line(bundle, place) for place in range(len(bundle.numbers))]
+    return "".join(line + "\n" for line in ["job state wrong words"] + lines)
+
+
+# ---------------------------------------------------------------- self-test
+
+SAMPLE_BOOK = Book(3, 2, 3, 0)
+SAMPLE_JOBS = {10: [(5, 2), (5, 2), (1, 2)], 11: [(5, 2), (1, 2), (7, 2)]}
+
+
+def sample():
+    """The paper's input of 256 bytes."""
+    columns = zip(*SAMPLE_JOBS.values())
+    return order(1) + b"".join(write_file(SAMPLE_BOOK, holder, 7, list(SAMPLE_JOBS), sum(shares, ()))
+                               for holder, shares in enumerate(columns, 1))
+
+
+def answer(book, holders, shares, e):
+    """(words, wrong), or the number."""
+    try:
+        return open_lent(book, holders, sum(shares, ()), e)
+    except Refused as refused:
+        return refused.number
+
+
+def test_marked():
+    """M1 to M12, in the paper's order, and the examples beside them."""
+    ring, line = ring_of(3, 2), Book(3, 2, 3, 1)
+    assert ring.mul((0, 1), (0, 1)) == (7, 7)
+    assert ring.mul((0, 1), (1, 1)) == (7, 0)
+    assert ring.inverse((0, 1)) == (7, 7)
+    assert list(deal(line, (5, 2), [(3, 1)]).values()) == [(0, 3), (4, 4), (7, 5)]
+    assert answer(line, [1, 2, 3], [(0, 3), (4, 4), (7, 5)], 0) == ((5, 2), [])
+    assert answer(line, [1, 2, 3], [(0, 3), (4, 4), (3, 5)], 0) == 6
+    assert answer(line, [1, 3], [(0, 3), (3, 5)], 0) == ((1, 6), [])
+    assert answer(line, [1, 2, 3], [(0, 3), (4, 4), (7, 5)], 1) == 5
+    assert answer(SAMPLE_BOOK, [1, 2, 3], SAMPLE_JOBS[10], 1) == ((5, 2), [3])
+    assert answer(SAMPLE_BOOK, [1, 2, 3], SAMPLE_JOBS[11], 1) == 6
+    assert ring_of(64, 4).mul((0, 0, 0, 1), (0, 1, 0, 0)) == (2**64 - 1, 2**64 - 1, 0, 0)
+    assert [ring_of(8, 2).signed(w) for w in (127, 128)] == [127, -128]
+    assert ring_of(1, 2).signed(1) == -1
+    assert answer(SAMPLE_BOOK, [], [()], 0) == 5
+    assert answer(SAMPLE_BOOK, [1, 2, 3], [(1, 2), (5, 2), (5, 2)], 1) == ((5, 2), [1])
+    assert [number_of(check_book, Book(1, 4, n, 0)) for n in (15, 16)] == [0, 1]
+    assert [number_of(check_book, Book(1, 4, 1, 0), jobs) for jobs in (1000, 1001)] == [0, 1]
+
+
+def test_bundle():
+    """The paper's sample, and the calls on a bundle."""
+    data = sample()
+    assert len(data) == 256
+    assert listing(data) == "job state wrong words\n10 open 3 -3,2\n11 6 - -\n"
+    assert fetch(data, 3, 0) == struct.pack("<3Q", 10, 1, 2)
+    assert total(data, 1, 0, 2) == (2, 4) and total(data, 1, 2, 2) == (0, 0)
+    assert open_place(data, 0) == ((5, 2), [3]) and open_run(data, 2, 2) == ((0, 0), [])
+    assert [number_of(fetch, data, *where) for where in ((0, 9), (4, 0), (1, 2), (1, 1))] == [4, 4, 9, 0]
+    assert [number_of(open_run, data, a, b) for a, b in ((1, 0), (0, 3), (3, 3), (0, 2), (0, 1))] == [9, 9, 9, 6, 0]
+    assert number_of(open_place, data, 1) == 6 and number_of(open_place, data, 2) == 9
+    assert listing(data + bytes(LONGEST_INPUT)) == "refused 2\n"
+    at, kinds = 0, []
+    while (read := read_record(data, at)) is not None:
+        kinds.append(read[0])
+        at = read[2]
+    assert kinds == [16] + 3 * [1, 2, 2] and at == 256
+    assert number_of(read_record, data, 257) == number_of(read_record, b"", 1) == 7 and read_record(b"", 0) is None
+    with_cuts = [number_of(Bundle, data[:cut]) for cut in range(257)]
+    assert [cut for cut, number in enumerate(with_cuts) if number == 0] == [90, 173, 256]
+    assert set(with_cuts) == {0, 7}
+
+
+def random_element(rng, ring):
+    return tuple(rng.getrandbits(ring.k) for _ in range(ring.d))
+
+
+def test_ring(rng):
+    """Laws of the ring on random elements, inverses, and "the difference of two points .. has an inverse"."""
+    for d in MODULUS:
+        for k in (1, 2, 3, 8, 33, 64):
+            ring = ring_of(k, d)
+            for _ in range(20):
+                a, b, c = (random_element(rng, ring) for _ in range(3))
+                assert ring.mul(a, ring.mul(b, c)) == ring.mul(ring.mul(a, b), c) and ring.mul(a, b) == ring.mul(b, a)
+                assert ring.mul(a, ring.add(b, c)) == ring.add(ring.mul(a, b), ring.mul(a, c))
+                unit = any(x % 2 for x in a)
+                assert ring.mul(a, ring.inverse(a)) == ring.one if unit else ring.inverse(a) == ring.zero
+        for i in range(2**d):
+            for j in range(i):
+                difference = ring.sub(ring.point(i), ring.point(j))
+                assert ring.mul(difference, inverse_difference(64, d, i, j)) == ring.one
+
+
+def random_shares(rng, ring, n, t):
+    """Shares of some holders: dealt, and then changed, moved to a second polynomial, or both, in some of them."""
+    first, second = ([random_element(rng, ring) for _ in range(t + 1)] for _ in range(2))
+    if rng.random() < 0.5:  # agree in all but the high bits
+        low = rng.randrange(ring.k)
+        second = [ring.add(a, tuple(x << low & ring.mask for x in b)) for a, b in zip(first, second)]
+    shares = {}
+    for i in sorted(rng.sample(range(1, n + 1), rng.randint(t + 1, n))):
+        polynomial = first if rng.random() < 0.7 else second
+        shares[i] = ring.value(polynomial, ring.point(i))
+        if rng.random() < 0.2:
+            change = [0] * ring.d
+            change[rng.randrange(ring.d)] = 1 << rng.randrange(ring.k)
+            shares[i] = ring.add(shares[i], tuple(change))
+    return shares
+
+
+def test_openings(rng, rounds):
+    """The ways of opening against each other; gives how often each answer came."""
+    seen = {"open": 0, "6": 0, "by definition": 0}
+    for _ in range(rounds):
+        d = rng.choice((2, 2, 3, 3, 4, 5, 6))
+        n, k = rng.randint(1, min(2**d - 1, 9)), rng.choice((1, 2, 3, 4, 5, 8, 16, 31, 64))
+        t, ring = rng.randrange(n), ring_of(k, d)
+        shares = random_shares(rng, ring, n, t)
+        e = rng.randint(0, (len(shares) - t - 1) // 2)
+        result = open_by_jumps(ring, t, shares, e)
+        assert result == open_by_subsets(ring, t, shares, e), (ring.k, d, t, shares, e)
+        if k * d * (t + 1) <= 8:
+            assert result == open_by_definition(ring, t, shares, e), (ring.k, d, t, shares, e)
+            seen["by definition"] += 1
+        seen["open" if result else "6"] += 1
+    return seen
+
+
+def test_large(rng):
+    """Books too large for the subsets: dealt jobs with at most e wrong shares open to themselves, with exact names."""
+    for book, e in ((Book(64, 6, 63, 20), 21), (Book(64, 6, 63, 0), 31), (Book(17, 5, 31, 10), 10), (Book(64, 4, 15, 4), 5)):
+        ring = ring_of(book.k, book.d)
+        for _ in range(3):
+            words = random_element(rng, ring)
+            shares = deal(book, words, [random_element(rng, ring) for _ in range(book.t)])
+            wrong = sorted(rng.sample(sorted(shares), rng.randint(0, e)))
+            for i in wrong:
+                shares[i] = ring.add(shares[i], (1 << rng.randrange(ring.k),) + ring.zero[1:])
+            assert open_shares(book, shares, e) == (words, wrong)
+            by = random_element(rng, ring)
+            if any(x % 2 for x in by):  # "dealt shares so multiplied .. open to the job times that element"
+                scaled = {i: ring.mul(by, share) for i, share in shares.items()}
+                assert open_shares(book, scaled, e) == (ring.mul(by, words), wrong)
+
+
+def test_runs(rng):
+    """The opened total of a run is the sum of its jobs, with the holders wrong in it named, and reads as the signed sum."""
+    book, e, jobs = Book(32, 3, 6, 1), 2, 5
+    ring = ring_of(book.k, book.d)
+    for _ in range(20):
+        dealt = [tuple(rng.randrange(-2**28, 2**28) & ring.mask for _ in range(book.d)) for _ in range(jobs)]
+        columns = [deal(book, words, [random_element(rng, ring)]) for words in dealt]
+        columns[3][5] = ring.add(columns[3][5], (0, 0, 1 << 31))
+        files = [write_file(book, i, 7, list(range(jobs)), sum((c[i] for c in columns), ())) for i in range(1, 7)]
+        a, b = sorted(rng.choices(range(jobs + 1), k=2))
+        words, wrong = open_run(order(e) + b"".join(files), a, b)
+        assert wrong == ([5] if a <= 3 < b else [])
+        for j in range(book.d):
+            assert ring.signed(words[j]) == sum(ring.signed(word[j]) for word in dealt[a:b])
+
+
+def selftest():
+    rng = random.Random(1)
+    test_marked()
+    test_bundle()
+    test_ring(rng)
+    test_runs(rng)
+    seen = test_openings(rng, 6000)
+    test_large(rng)
+    print("self-test passed; openings compared:", ", ".join(f"{count} {name}" for name, count in seen.items()))
+
+
+if __name__ == "__main__":
+    if sys.argv[1:] == ["--selftest"]:
+        selftest()
+    elif sys.argv[1:]:
+        sys.exit("usage: reference.py [--selftest] < bundle")
+    else:
+        sys.stdout.write(listing(sys.stdin.buffer.read()))
