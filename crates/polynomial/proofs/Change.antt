@@ -1,7 +1,6 @@
 -- A list of which the first members are changed (`change`): its length, its members, what stays; and such changes of coefficients as the
--- polynomials' own operations: c p - e q, and (Z - x) p. Assumes nothing.
+-- polynomials' own operations: p - e q, and (Z - x) p. Assumes nothing.
 use mathlib.Core.Path.{_≡_, refl, sym, _∙_, ap, ap₂}
-use mathlib.Core.Logic.{_⊎_, inl, inr}
 use mathlib.Core.List.{List, [], _∷_, _++_, map}
 use Prim.Native.Nat.{ℕ, zero, suc, _+_, _≤_, _<_}
 use native.Mathlib.Nat.{zero-add, le-of-suc-le-suc, not-suc-le-zero, suc-inj, suc-ne-zero}
@@ -10,7 +9,7 @@ use lib.ListN.{length, take, drop, getD, take-append-drop}
 use lib.Seq.{paste}
 use Rattle.algebra.specs.Ring.{CommRing}
 use Rattle.algebra.specs.Poly.{coef}
-use Rattle.algebra.proofs.Ring.{mul-zero, zero-mul, add-zero, neg-mul, neg-zero}
+use Rattle.algebra.proofs.Ring.{mul-zero, one-mul, add-zero, neg-mul}
 use Rattle.algebra.proofs.Poly.{Low, Same, lin, mulx, padd, scale, coef-lin, coef-padd, coef-scale, low-tail, low-shift, low-mono}
 use Rattle.polynomial.specs.Rows.{change}
 
@@ -55,29 +54,21 @@ change-map h g f e (suc n) (b ∷ u) (a ∷ p) = ap₂ _∷_ (e b a) (change-map
 module _ (R : CommRing) where
   infixl 65 _⊕_
   infixl 70 _⊗_
-  open CommRing R using (E, add as _⊕_, mul as _⊗_, neg as ⊖, 𝟘)
+  open CommRing R using (E, add as _⊕_, mul as _⊗_, neg as ⊖, 𝟘, 𝟙)
 
-  -- c p - e q
-  pub change-lin : (c e : E) (n : ℕ) (p q : List E) → length p ≡ length q → Low R n p → Low R n q ⊎ (e ≡ 𝟘)
-      → Same R (change (λ b a. c ⊗ a ⊕ ⊖ (e ⊗ b)) n q p) (lin R c p (⊖ e) q)
+  -- p - e q
+  pub change-lin : (e : E) (n : ℕ) (p q : List E) → length p ≡ length q → Low R n p → Low R n q
+      → Same R (change (λ b a. a ⊕ ⊖ (e ⊗ b)) n q p) (lin R 𝟙 p (⊖ e) q)
   unfolding change
-  change-lin c e zero p q l h g j = h j (omega arith) ∙ sym (coef-lin R c p (⊖ e) q j ∙ nought (h j (omega arith)) (other g))
+  change-lin e zero p q l h g j = h j (omega arith) ∙ sym (coef-lin R 𝟙 p (⊖ e) q j ∙ nought (h j (omega arith)) (g j (omega arith)))
     where
-      other : Low R 0 q ⊎ (e ≡ 𝟘) → ⊖ e ⊗ coef R q j ≡ 𝟘
-      other (inl m) = ap (λ x. ⊖ e ⊗ x) (m j (omega arith)) ∙ mul-zero R (⊖ e)
-      other (inr m) = rw (m, neg-zero, zero-mul)
-
-      nought : {x y : E} → x ≡ 𝟘 → y ≡ 𝟘 → c ⊗ x ⊕ y ≡ 𝟘
-      nought u v = rw (u, v, mul-zero, add-zero)
-  change-lin c e (suc n) [] [] l h g j = refl
-  change-lin c e (suc n) [] (b ∷ q) l h g j = absurd (suc-ne-zero (length q) (sym l))
-  change-lin c e (suc n) (a ∷ p) [] l h g j = absurd (suc-ne-zero (length p) l)
-  change-lin c e (suc n) (a ∷ p) (b ∷ q) l h g zero = ap (λ x. c ⊗ a ⊕ x) (sym (neg-mul R e b))
-  change-lin c e (suc n) (a ∷ p) (b ∷ q) l h g (suc j) = change-lin c e n p q (suc-inj l) (low-tail R n a p h) (tail g) j
-    where
-      tail : Low R (suc n) (b ∷ q) ⊎ (e ≡ 𝟘) → Low R n q ⊎ (e ≡ 𝟘)
-      tail (inl m) = inl (low-tail R n b q m)
-      tail (inr m) = inr m
+      nought : {x y : E} → x ≡ 𝟘 → y ≡ 𝟘 → 𝟙 ⊗ x ⊕ ⊖ e ⊗ y ≡ 𝟘
+      nought u v = rw (u, v, mul-zero, mul-zero, add-zero)
+  change-lin e (suc n) [] [] l h g j = refl
+  change-lin e (suc n) [] (b ∷ q) l h g j = absurd (suc-ne-zero (length q) (sym l))
+  change-lin e (suc n) (a ∷ p) [] l h g j = absurd (suc-ne-zero (length p) l)
+  change-lin e (suc n) (a ∷ p) (b ∷ q) l h g zero = ap₂ _⊕_ (sym (one-mul R a)) (sym (neg-mul R e b))
+  change-lin e (suc n) (a ∷ p) (b ∷ q) l h g (suc j) = change-lin e n p q (suc-inj l) (low-tail R n a p h) (low-tail R n b q g) j
 
   -- (Z - x) p, with b for the coefficient below the first
   carried : (x b : E) (n : ℕ) (p : List E) → n ≤ length p → Low R n (b ∷ p)

@@ -1,7 +1,6 @@
 -- Newton's interpolation in rows is the one over the ring (`Interpolation` of algebra): where q holds the polynomial through some shares and m
 -- their nodal polynomial, after one share more they hold those of all the shares (`extend-same`). Assumes nothing.
 use mathlib.Core.Path.{_≡_, refl, sym, _∙_, ap, ap₂}
-use mathlib.Core.Logic.{inl}
 use mathlib.Core.List.{List, [], _∷_}
 use Prim.Native.Nat.{ℕ, zero, suc, _+_, _≤_}
 use native.Mathlib.Omega.{arith}
@@ -12,10 +11,10 @@ use Rattle.algebra.specs.Shares.{Share}
 use Rattle.algebra.proofs.Ring.{signed}
 use Rattle.algebra.proofs.Poly.{Low, Same, lin, mulx, scale, coef-lin, coef-padd, coef-scale, low-mono, low-length, eval-same, same-pad}
 use Rattle.algebra.proofs.Interpolation.{interp, nodal, length-interp, length-nodal}
-use Rattle.ring.specs.Element.{Element, difference, product, lower, oneE, inverse}
+use Rattle.ring.specs.Element.{Element, difference, product, lower, inverse}
 use Rattle.ring.proofs.Galois.{GR}
 use Rattle.ring.proofs.Table.{length-lower}
-use Rattle.ring.proofs.Lists.{toList, ofList, length-toList, length-one, of-to, of-one, difference-of, product-of}
+use Rattle.ring.proofs.Lists.{toList, ofList, length-toList, of-to, difference-of, product-of}
 use Rattle.ring.proofs.Instance.{ringOf, invert, invert-is}
 use Rattle.polynomial.specs.Polynomial.{value}
 use Rattle.polynomial.specs.Rows.{Rows, coefs, rootRows, excess, extendRows}
@@ -27,8 +26,8 @@ use Rattle.polynomial.proofs.OverRing.{
   zero-rows,
   one-rows,
   value-low,
-  mix-exact,
-  mix-same,
+  subtract-exact,
+  subtract-same,
   root-exact,
   root-same,
 }
@@ -132,13 +131,13 @@ module _ (k d : ℕ) (h : 1 ≤ k) (dl : 2 ≤ d) (dh : d ≤ 6) where
     length-excess = ap length excess-is ∙ length-toList over
 
     pub extend-exact : Exact k d (extendRows k d n q m x y)
-    extend-exact = mix-exact k d dl dh (n + 1) (oneE d) q (excess k d n q m x y) m (length-one d) length-excess xq xm
+    extend-exact = subtract-exact k d dl dh (n + 1) q (excess k d n q m x y) m length-excess xq xm
 
     pub extend-same : Same (GR d k) (polyOf k d (extendRows k d n q m x y)) (interp (ringOf d k) (share ∷ ss))
     extend-same j =
-        mix-same k d dl dh (n + 1) (oneE d) q (excess k d n q m x y) m (length-one d) length-excess xq xm lq
-        (low-mono (GR d k) (polyOf k d q) (omega arith) low-q) (inl low-m) j
-        ∙ ap₂ (λ c e. coef (GR d k) (lin (GR d k) c (polyOf k d q) e (polyOf k d m)) j) (of-one k d)
+        subtract-same k d dl dh (n + 1) q (excess k d n q m x y) m length-excess xq xm lq
+        (low-mono (GR d k) (polyOf k d q) (omega arith) low-q) low-m j
+        ∙ ap (λ e. coef (GR d k) (lin (GR d k) 𝟙 (polyOf k d q) e (polyOf k d m)) j)
         (ap ⊖ of-excess ∙ turned (GR d k) v (ofList k d y) (invert d k w))
         ∙ same-lin (GR d k) 𝟙 ((ofList k d y ⊕ ⊖ v) ⊗ invert d k w) (polyOf k d q) (interp (ringOf d k) ss) (polyOf k d m) (nodal (GR d k) ss) sq sm j
 

@@ -1,9 +1,9 @@
--- Rows as polynomials over the ring of the elements, `GR d k`: values, c p - e q and (Z - x) p of rows are those of the polynomials.
--- Assumes nothing.
+-- Rows as polynomials over the ring of the elements, `GR d k`: values, p - e q and (Z - x) p of rows are those of the polynomials;
+-- and a value in more bits, cut to fewer, is the one at fewer. Assumes nothing.
 use mathlib.Core.Path.{_≡_, refl, sym, _∙_, ap, ap₂}
-use mathlib.Core.Logic.{_⊎_}
 use mathlib.Core.List.{List, [], _∷_, map}
 use Prim.Native.Nat.{ℕ, zero, suc, _^_, _≤_, _<_}
+use native.Mathlib.Nat.{le-refl}
 use native.Mathlib.Omega.{arith}
 use lib.ListN.{length, take, set, replicate, length-map}
 use lib.Seq.{length-take-le}
@@ -12,14 +12,15 @@ use Rattle.algebra.specs.Poly.{eval, coef}
 use Rattle.algebra.specs.Shares.{All}
 use Rattle.algebra.proofs.Vec.{cons}
 use Rattle.algebra.proofs.Poly.{Low, Same, lin, mulx, eval-same, same-take}
-use Rattle.ring.specs.Element.{Element, sum, difference, lower, product, oneE, held}
+use Rattle.ring.specs.Element.{Element, sum, difference, lower, product, oneE, reduce, held}
 use Rattle.ring.proofs.Zmod.{word}
 use Rattle.ring.proofs.Galois.{GR}
 use Rattle.ring.proofs.Table.{length-lower}
-use Rattle.ring.proofs.Lists.{toList, ofList, length-toList, of-to, sum-of, difference-to, product-of, zero-of, one-of}
+use Rattle.ring.proofs.Lists.{toList, ofList, length-toList, of-to, sum-of, difference-to, product-of, zero-of, one-of, length-reduce, of-reduce, reduce-product, product-same}
 use Rattle.ring.proofs.Held.{held-take, held-length, zeros-held, to-six}
+use Rattle.ring.proofs.Narrow.{reduce-zeros, reduce-sum, reduce-held, sum-reduce}
 use Rattle.polynomial.specs.Polynomial.{Polynomial, value}
-use Rattle.polynomial.specs.Rows.{Rows, Shaped, coefs, change, mixed, mixRows, lessTimes, rootRows}
+use Rattle.polynomial.specs.Rows.{Rows, Shaped, coefs, change, lessTimes, lessMultiple, subtractRows, rootRows}
 use Rattle.polynomial.proofs.Shape.{shaped-by}
 use Rattle.polynomial.proofs.Change.{change-map, change-lin, change-mulx}
 
@@ -114,7 +115,7 @@ module _ (k d : ℕ) where
   module _ (dl : 2 ≤ d) (dh : d ≤ 6) where
     infixl 65 _⊕_
     infixl 70 _⊗_
-    open CommRing (GR d k) using (E, add as _⊕_, mul as _⊗_, neg as ⊖, 𝟘)
+    open CommRing (GR d k) using (E, add as _⊕_, mul as _⊗_, neg as ⊖, 𝟘, 𝟙)
 
     product-row : (c : Element) (u : E) → length c ≡ d → product k (lower d) c (toList u) ≡ toList (ofList k d c ⊗ u)
     product-row c u l =
@@ -147,45 +148,40 @@ module _ (k d : ℕ) where
     value-low n p x l m h =
         value-rows n p x l m ∙ ap toList (eval-same (GR d k) (take n (polyOf p)) (polyOf p) (ofList k d x) (same-take (GR d k) n (polyOf p) h))
 
-    -- c p - e q
-    module _ (n : ℕ) (c : Element) (p : Rows) (e : Element) (q : Rows) (lc : length c ≡ d) (le : length e ≡ d) (xp : Exact p) (xq : Exact q) where
-      abbrev mixOf : E → E → E
-      mixOf b a = ofList k d c ⊗ a ⊕ ⊖ (ofList k d e ⊗ b)
+    less-row : (x : Element) → length x ≡ d → (b a : E) → lessTimes k d x (row b) (row a) ≡ row (b ⊕ ⊖ (ofList k d x ⊗ a))
+    less-row x lx b a =
+        ap₂ (λ u v. held d (difference k u (product k (lower d) x v))) (take-row b) (take-row a)
+        ∙ ap (λ v. held d (difference k (toList b) v)) (product-row x a lx)
+        ∙ ap (held d) (difference-to k b (ofList k d x ⊗ a))
 
-      mixed-row : (b a : E) → mixed k d c e (row b) (row a) ≡ row (mixOf b a)
-      mixed-row b a =
-          ap₂ (λ u v. held d (difference k (product k (lower d) c u) (product k (lower d) e v))) (take-row a) (take-row b)
-          ∙ ap₂ (λ u v. held d (difference k u v)) (product-row c a lc) (product-row e b le)
-          ∙ ap (held d) (difference-to k (ofList k d c ⊗ a) (ofList k d e ⊗ b))
+    -- p - e q
+    module _ (n : ℕ) (p : Rows) (e : Element) (q : Rows) (le : length e ≡ d) (xp : Exact p) (xq : Exact q) where
+      abbrev lessOf : E → E → E
+      lessOf b a = a ⊕ ⊖ (ofList k d e ⊗ b)
 
-      mix-rows : mixRows k d n c p e q ≡ map row (change mixOf n (polyOf q) (polyOf p))
-      mix-rows = ap₂ (change (mixed k d c e) n) (sym xq) (sym xp) ∙ change-map row mixOf (mixed k d c e) mixed-row n (polyOf q) (polyOf p)
+      subtract-rows : subtractRows k d n p e q ≡ map row (change lessOf n (polyOf q) (polyOf p))
+      subtract-rows =
+          ap₂ (change (lessMultiple k d e) n) (sym xq) (sym xp)
+          ∙ change-map row lessOf (lessMultiple k d e) (λ b a. less-row e le a b) n (polyOf q) (polyOf p)
 
-      pub mix-exact : Exact (mixRows k d n c p e q)
-      mix-exact = exact-by (mixRows k d n c p e q) (change mixOf n (polyOf q) (polyOf p)) mix-rows
+      pub subtract-exact : Exact (subtractRows k d n p e q)
+      subtract-exact = exact-by (subtractRows k d n p e q) (change lessOf n (polyOf q) (polyOf p)) subtract-rows
 
-      pub mix-same : length p ≡ length q → Low (GR d k) n (polyOf p) → Low (GR d k) n (polyOf q) ⊎ (ofList k d e ≡ 𝟘)
-          → Same (GR d k) (polyOf (mixRows k d n c p e q)) (lin (GR d k) (ofList k d c) (polyOf p) (⊖ (ofList k d e)) (polyOf q))
-      mix-same l hp hq j =
-          ap (λ us. coef (GR d k) us j) (poly-by (mixRows k d n c p e q) (change mixOf n (polyOf q) (polyOf p)) mix-rows)
-          ∙ change-lin (GR d k) (ofList k d c) (ofList k d e) n (polyOf p) (polyOf q)
-          (length-map p (ofList k d) ∙ l ∙ sym (length-map q (ofList k d))) hp hq j
+      pub subtract-same : length p ≡ length q → Low (GR d k) n (polyOf p) → Low (GR d k) n (polyOf q)
+          → Same (GR d k) (polyOf (subtractRows k d n p e q)) (lin (GR d k) 𝟙 (polyOf p) (⊖ (ofList k d e)) (polyOf q))
+      subtract-same l hp hq j =
+          ap (λ us. coef (GR d k) us j) (poly-by (subtractRows k d n p e q) (change lessOf n (polyOf q) (polyOf p)) subtract-rows)
+          ∙ change-lin (GR d k) (ofList k d e) n (polyOf p) (polyOf q) (length-map p (ofList k d) ∙ l ∙ sym (length-map q (ofList k d))) hp hq j
 
     -- (Z - x) p
     module _ (n : ℕ) (x : Element) (p : Rows) (lx : length x ≡ d) (xp : Exact p) where
       abbrev rootOf : E → E → E
       rootOf b a = b ⊕ ⊖ (ofList k d x ⊗ a)
 
-      less-row : (b a : E) → lessTimes k d x (row b) (row a) ≡ row (rootOf b a)
-      less-row b a =
-          ap₂ (λ u v. held d (difference k u (product k (lower d) x v))) (take-row b) (take-row a)
-          ∙ ap (λ v. held d (difference k (toList b) v)) (product-row x a lx)
-          ∙ ap (held d) (difference-to k b (ofList k d x ⊗ a))
-
       root-rows : rootRows k d n x p ≡ map row (change rootOf n (𝟘 ∷ polyOf p) (polyOf p))
       root-rows =
           ap₂ (change (lessTimes k d x) n) (ap₂ _∷_ (sym (row-zero dh)) (sym xp)) (sym xp)
-          ∙ change-map row rootOf (lessTimes k d x) less-row n (𝟘 ∷ polyOf p) (polyOf p)
+          ∙ change-map row rootOf (lessTimes k d x) (less-row x lx) n (𝟘 ∷ polyOf p) (polyOf p)
 
       pub root-exact : Exact (rootRows k d n x p)
       root-exact = exact-by (rootRows k d n x p) (change rootOf n (𝟘 ∷ polyOf p) (polyOf p)) root-rows
@@ -195,3 +191,25 @@ module _ (k d : ℕ) where
       root-same m l h low j =
           ap (λ us. coef (GR d k) us j) (poly-by (rootRows k d n x p) (change rootOf n (𝟘 ∷ polyOf p) (polyOf p)) root-rows)
           ∙ change-mulx (GR d k) (ofList k d x) n m (polyOf p) l (rw (length-map p (ofList k d)) h) low j
+
+-- fewer bits of a value
+reduce-value : {j k : ℕ} → j ≤ k → (d : ℕ) → 2 ≤ d → d ≤ 6 → (cs : Polynomial) (x : Element) → All (λ c. length c ≡ d) cs → length x ≡ d
+    → reduce j (value k d cs x) ≡ value j d cs x
+unfolding value
+reduce-value {j} h d dl dh [] x l m = reduce-zeros j d
+reduce-value {j} {k} h d dl dh (c ∷ cs) x (l, ls) m =
+    let hl : length (lower d) ≡ d = length-lower d dl dh in
+    let v = value k d cs x in
+    let hv : length v ≡ d = ap length (value-of k d dl dh cs x ls m) ∙ length-toList (eval (GR d k) (polyOf k d cs) (ofList k d x)) in
+    reduce-sum h c (product k (lower d) x v)
+    ∙ sym (sum-reduce j c (product k (lower d) x v))
+    ∙ ap (sum j c)
+    (reduce-product h d (lower d) hl x v m hv
+    ∙ product-same j d (lower d) hl x v x (reduce j v) m hv m (length-reduce j v ∙ hv) refl (sym (of-reduce (le-refl j) d v))
+    ∙ ap (product j (lower d) x) (reduce-value h d dl dh cs x ls m))
+
+pub narrow-value : {j k : ℕ} → j ≤ k → (d : ℕ) → 2 ≤ d → d ≤ 6 → (n : ℕ) (p : Rows) (x : Element) → All (λ r. length r ≡ 6) p → length x ≡ d
+    → reduce j (held d (value k d (coefs d n p) x)) ≡ held d (value j d (coefs d n p) x)
+narrow-value {j} {k} h d dl dh n p x l m =
+    reduce-held j d (value k d (coefs d n p) x) (value-length k d dl dh n p x l m) dh
+    ∙ ap (held d) (reduce-value h d dl dh (coefs d n p) x (coefs-length k d dh n p l) m)

@@ -2,7 +2,7 @@
 use mathlib.Core.Path.{_≡_, refl, sym, _∙_, ap, ap₂}
 use mathlib.Core.List.{List, [], _∷_, map}
 use Prim.Native.Nat.{ℕ, zero, suc, _<_}
-use native.Mathlib.Nat.{not-suc-le-zero, le-of-suc-le-suc, suc-inj, suc-ne-zero}
+use native.Mathlib.Nat.{suc-inj, suc-ne-zero}
 use lib.ListN.{length, getD, replicate, length-map, length-replicate}
 use mir.Syntax.{w64}
 use mir.Val.{Val}
@@ -12,6 +12,7 @@ use denote.Plain.{UInt}
 use denote.Laws.{Is}
 use borrow.Kind.Array.{good-length, eInt}
 use Rattle.algebra.specs.Shares.{All}
+use Rattle.algebra.proofs.Shares.{all-at}
 use Rattle.polynomial.specs.Rows.{Rows, Shaped}
 
 rows-length : (n : ℕ) (p : Rows) → map length p ≡ replicate n 6 → length p ≡ n
@@ -28,11 +29,6 @@ rows-all n [] h = tt
 rows-all zero (r ∷ p) h = absurd (suc-ne-zero (length (map length p)) (ap length h))
 rows-all (suc n) (r ∷ p) h = (ap (λ (l : List ℕ). getD l 0 0) h, rows-all n p (ap (λ (l : List ℕ). lib.ListN.drop 1 l) h))
 
-all-at : (p : Rows) (i : ℕ) → All (λ r. length r ≡ 6) p → i < length p → length (getD p i []) ≡ 6
-all-at [] i a h = absurd (not-suc-le-zero h)
-all-at (r ∷ p) zero a h = a .0
-all-at (r ∷ p) (suc i) a h = all-at p i (a .1) (le-of-suc-le-suc h)
-
 pub shaped-length : (p : Rows) → Shaped p → length p ≡ 64
 unfolding Shaped
 shaped-length p h = rows-length 64 p h
@@ -42,7 +38,7 @@ unfolding Shaped
 shaped-all p h = rows-all 64 p h
 
 pub shaped-row : (p : Rows) (i : ℕ) → Shaped p → i < 64 → length (getD p i []) ≡ 6
-shaped-row p i h l = all-at p i (shaped-all p h) (rw (shaped-length p h) l)
+shaped-row p i h l = all-at (λ r. length r ≡ 6) p i [] (shaped-all p h) (rw (shaped-length p h) l)
 
 pub shaped-by : (p : Rows) → All (λ r. length r ≡ 6) p → length p ≡ 64 → Shaped p
 unfolding Shaped

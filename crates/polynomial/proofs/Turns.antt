@@ -1,4 +1,4 @@
--- A turn of each loop: down through the rows for a value, up through them for c p - e q and (Z - x) p; and the calls of Newton's step.
+-- A turn of each loop: down through the rows for a value, up through them for p - e q and (Z - x) p; and the calls of Newton's step.
 -- Assumes nothing.
 use mathlib.Core.Path.{_≡_, refl, sym, _∙_, ap, ap₂}
 use mathlib.Core.List.{List, [], _∷_}
@@ -9,14 +9,14 @@ use lib.ListN.{length, getD, take, drop, set, replicate, drop-of-length-le, leng
 use lib.Seq.{paste, drop-cons, length-take-le, getD-take, take-nil}
 use Rattle.words.specs.Word.{addW, subW}
 use Rattle.words.proofs.Fill.{fill-next, fill-ahead}
-use Rattle.ring.specs.Element.{Element, sum, difference, lower, product, zeroE, oneE, inverse, held}
+use Rattle.ring.specs.Element.{Element, sum, difference, lower, product, zeroE, inverse, held}
 use Rattle.ring.proofs.Table.{length-lower}
 use Rattle.ring.proofs.Lists.{length-zip, length-product}
 use Rattle.ring.proofs.Inverse.{length-inverse}
 use Rattle.ring.proofs.Zip.{zip-take}
-use Rattle.ring.proofs.Held.{held-take, held-length, held-same, difference-held, to-six}
+use Rattle.ring.proofs.Held.{held-take, held-length, held-same, to-six}
 use Rattle.polynomial.specs.Polynomial.{value}
-use Rattle.polynomial.specs.Rows.{Rows, coefs, mixed, mixRows, lessTimes, rootRows, excess, extendRows}
+use Rattle.polynomial.specs.Rows.{Rows, coefs, lessTimes, lessMultiple, subtractRows, rootRows, excess, extendRows}
 use Rattle.polynomial.proofs.Change.{length-change, change-at}
 
 module _ (k d : ℕ) (dl : 2 ≤ d) (dh : d ≤ 6) where
@@ -65,22 +65,32 @@ module _ (k d : ℕ) (dl : 2 ≤ d) (dh : d ≤ 6) where
         let hb : length (held d b) ≡ 6 = held-length d b (product-length x r hr) dh in
         length-zip (addW k) a (held d b) (ha ∙ sym hb) ∙ hb
 
-  -- c p - e q
-  pub mix-turn : (n : ℕ) (c : Element) (p : Rows) (e : Element) (q x : Rows) (i : ℕ)
+  -- a row less x times another, as it is computed: over six words, then cut to d
+  less-held : (x b a : Element) → length b ≡ 6 → length a ≡ 6
+      → held d (difference k b (held d (product k (lower d) x (take d a)))) ≡ lessTimes k d x b a
+  less-held x b a lb la =
+      let u = product k (lower d) x (take d a) in
+      let lu : length u ≡ d = product-length x a la in
+      let lt : length (take d b) ≡ d = length-take-le d b (omega arith) in
+      held-same d (difference k b (held d u)) (difference k (take d b) u)
+      (zip-take (subW k) d b (held d u) ∙ ap (difference k (take d b)) (held-take d u lu))
+      (length-zip (subW k) (take d b) u (lt ∙ sym lu) ∙ lu)
+
+  -- p - e q
+  pub subtract-turn : (n : ℕ) (p : Rows) (e : Element) (q x : Rows) (i : ℕ)
       → i < n → n ≤ length p → n ≤ length q → length (getD p i []) ≡ 6 → length (getD q i []) ≡ 6
-      → x ≡ paste p 0 (mixRows k d n c p e q) i
-      → set x i (difference k (held d (product k (lower d) c (take d (getD x i [])))) (held d (product k (lower d) e (take d (getD q i [])))))
-      ≡ paste p 0 (mixRows k d n c p e q) (i + 1)
-  mix-turn n c p e q x i h hp hq lp lq ex =
-      let s = mixRows k d n c p e q in
-      let ls : length s ≡ length p = length-change (mixed k d c e) n q p in
-      let u = product k (lower d) c (take d (getD p i [])) in
+      → x ≡ paste p 0 (subtractRows k d n p e q) i
+      → set x i (held d (difference k (getD x i []) (held d (product k (lower d) e (take d (getD q i []))))))
+      ≡ paste p 0 (subtractRows k d n p e q) (i + 1)
+  subtract-turn n p e q x i h hp hq lp lq ex =
+      let s = subtractRows k d n p e q in
+      let ls : length s ≡ length p = length-change (lessMultiple k d e) n q p in
       let v = product k (lower d) e (take d (getD q i [])) in
       let ahead : getD x i [] ≡ getD p i [] = fill-ahead p s x i [] ex (omega arith) in
       fill-next p s x i [] _ ex (omega arith) (omega arith)
-      (ap (λ (r : List ℕ). difference k (held d (product k (lower d) c (take d r))) (held d v)) ahead
-      ∙ difference-held k d u v (product-length c (getD p i []) lp) (product-length e (getD q i []) lq) dh
-      ∙ sym (change-at (mixed k d c e) n q p i [] h (omega arith) (omega arith)))
+      (ap (λ (r : List ℕ). held d (difference k r (held d v))) ahead
+      ∙ less-held e (getD p i []) (getD q i []) lp lq
+      ∙ sym (change-at (lessMultiple k d e) n q p i [] h (omega arith) (omega arith)))
 
   -- (Z - x) p
   pub root-turn : (n : ℕ) (x : Element) (p y : Rows) (b : List ℕ) (i : ℕ)
@@ -90,27 +100,18 @@ module _ (k d : ℕ) (dl : 2 ≤ d) (dh : d ≤ 6) where
   root-turn n x p y b i h hp lp lb eb ey =
       let s = rootRows k d n x p in
       let ls : length s ≡ length p = length-change (lessTimes k d x) n (replicate 6 0 ∷ p) p in
-      let u = product k (lower d) x (take d (getD p i [])) in
-      let lu : length u ≡ d = product-length x (getD p i []) lp in
-      let lt : length (take d b) ≡ d = length-take-le d b (omega arith) in
       let ahead : getD y i [] ≡ getD p i [] = fill-ahead p s y i [] ey (omega arith) in
-      let cut : take d (difference k b (held d u)) ≡ difference k (take d b) u =
-      zip-take (subW k) d b (held d u) ∙ ap (difference k (take d b)) (held-take d u lu) in
       fill-next p s y i [] _ ey (omega arith) (omega arith)
       (ap (λ (r : List ℕ). held d (difference k b (held d (product k (lower d) x (take d r))))) ahead
-      ∙ held-same d (difference k b (held d u)) (difference k (take d b) u) cut (length-zip (subW k) (take d b) u (lt ∙ sym lu) ∙ lu)
+      ∙ less-held x b (getD p i []) lb lp
       ∙ ap (λ (r : List ℕ). lessTimes k d x r (getD p i [])) eb
       ∙ sym (change-at (lessTimes k d x) n (replicate 6 0 ∷ p) p i [] h (omega arith) (omega arith)))
-
-  -- the row of one
-  one-row : take d (1 ∷ replicate 5 0) ≡ oneE d
-  one-row = to-six (λ m. take m (1 ∷ replicate 5 0) ≡ oneE m) refl refl refl refl refl refl refl d dh
 
   pub extend-calls : (n : ℕ) (q m r : Rows) (x y v w f i c : Element)
       → length (value k d (coefs d n q) x) ≡ d → length (value k d (coefs d (n + 1) m) x) ≡ d
       → v ≡ held d (value k d (coefs d n q) x) → w ≡ held d (value k d (coefs d (n + 1) m) x)
       → i ≡ held d (inverse k d (take d w)) → f ≡ difference k v y → c ≡ held d (product k (lower d) (take d f) (take d i))
-      → r ≡ mixRows k d (n + 1) (take d (1 ∷ replicate 5 0)) q (take d c) m → r ≡ extendRows k d n q m x (take d y)
+      → r ≡ subtractRows k d (n + 1) q (take d c) m → r ≡ extendRows k d n q m x (take d y)
   extend-calls n q m r x y v w f i c lv lw ev ew ei ef ec er =
       let vv = value k d (coefs d n q) x in
       let ww = value k d (coefs d (n + 1) m) x in
@@ -124,4 +125,4 @@ module _ (k d : ℕ) (dl : 2 ≤ d) (dh : d ≤ 6) where
       length-product k (lower d) (take d f) (take d i) (ap length ti ∙ length-inverse k d ww ∙ sym hl) ∙ hl in
       let tc : take d c ≡ excess k d n q m x (take d y) =
       ap (take d) ec ∙ held-take d (product k (lower d) (take d f) (take d i)) lp ∙ ap₂ (product k (lower d)) tf ti in
-      er ∙ ap₂ (λ (a b : Element). mixRows k d (n + 1) a q b m) one-row tc
+      er ∙ ap (λ (b : Element). subtractRows k d (n + 1) q b m) tc

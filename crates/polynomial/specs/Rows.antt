@@ -3,7 +3,7 @@ use mathlib.Core.Path.{_≡_}
 use mathlib.Core.List.{List, [], _∷_, map}
 use Prim.Native.Nat.{ℕ, zero, suc, _+_}
 use lib.ListN.{length, take, replicate}
-use Rattle.ring.specs.Element.{Element, difference, lower, product, oneE, inverse, held}
+use Rattle.ring.specs.Element.{Element, difference, lower, product, inverse, held}
 use Rattle.polynomial.specs.Polynomial.{Polynomial, value}
 
 abbrev pub Rows : Type 0
@@ -24,17 +24,18 @@ change f (suc n) [] p = p
 change f (suc n) (b ∷ u) [] = []
 change f (suc n) (b ∷ u) (a ∷ p) = f b a ∷ change f n u p
 
--- c p - e q in the first n rows, coefficient by coefficient
-abbrev pub mixed : ℕ → ℕ → Element → Element → List ℕ → List ℕ → List ℕ
-mixed k d c e b a = held d (difference k (product k (lower d) c (take d a)) (product k (lower d) e (take d b)))
-
-abbrev pub mixRows : ℕ → ℕ → ℕ → Element → Rows → Element → Rows → Rows
-mixRows k d n c p e q = change (mixed k d c e) n q p
-
--- (Z - x) p in the first n rows: each coefficient is the one below it less x times itself, and below the free term is zero
+-- a row less x times another
 abbrev pub lessTimes : ℕ → ℕ → Element → List ℕ → List ℕ → List ℕ
 lessTimes k d x b a = held d (difference k (take d b) (product k (lower d) x (take d a)))
 
+-- p - e q in the first n rows, coefficient by coefficient
+abbrev pub lessMultiple : ℕ → ℕ → Element → List ℕ → List ℕ → List ℕ
+lessMultiple k d e b a = lessTimes k d e a b
+
+abbrev pub subtractRows : ℕ → ℕ → ℕ → Rows → Element → Rows → Rows
+subtractRows k d n p e q = change (lessMultiple k d e) n q p
+
+-- (Z - x) p in the first n rows: each coefficient is the one below it less x times itself, and below the free term is zero
 abbrev pub rootRows : ℕ → ℕ → ℕ → Element → Rows → Rows
 rootRows k d n x p = change (lessTimes k d x) n (replicate 6 0 ∷ p) p
 
@@ -44,4 +45,4 @@ abbrev pub excess : ℕ → ℕ → ℕ → Rows → Rows → Element → Elemen
 excess k d n q m x y = product k (lower d) (difference k (value k d (coefs d n q) x) y) (inverse k d (value k d (coefs d (n + 1) m) x))
 
 abbrev pub extendRows : ℕ → ℕ → ℕ → Rows → Rows → Element → Element → Rows
-extendRows k d n q m x y = mixRows k d (n + 1) (oneE d) q (excess k d n q m x y) m
+extendRows k d n q m x y = subtractRows k d (n + 1) q (excess k d n q m x y) m

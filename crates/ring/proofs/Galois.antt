@@ -211,3 +211,11 @@ module _ (k : ℕ) where
         let f = low F (suc-le-suc zero-le) in
         let z : f .fn (R .add u (R .neg (bits u))) ≡ Galois F 1 .𝟘 = fn-sub f u (bits u) (sym (low-raise (suc-le-suc zero-le) (f .fn u))) in
         sym (ap (R .add (bits u)) (double-halve (R .add u (R .neg (bits u))) z) ∙ add-sub-left R u (bits u))
+
+-- modulo two minus is plus
+pub neg-self : {n : ℕ} (u : Vec (Word (2 ^ 1)) n) → vneg (Zk 1) u ≡ u
+neg-self nil = refl
+neg-self (cons w u) = ap₂ cons (word-ext (two (w .val) (w .low))) (neg-self u)
+  where
+    two : (x : ℕ) → x % 2 ≡ x → (2 - x) % 2 ≡ x
+    two x h = omega arith

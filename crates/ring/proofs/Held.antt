@@ -1,19 +1,26 @@
 -- Elements in arrays of six: d words and zeros after them. Assumes nothing.
 use mathlib.Core.Path.{_≡_, refl, sym, ap, ap₂, _∙_}
-use mathlib.Core.Bool.{true, cond}
-use mathlib.Core.List.{[], _∷_, _++_}
-use Prim.Native.Nat.{ℕ, zero, suc, _+_, _-_, _*_, _^_, _≤_, _<_}
-use native.Mathlib.Nat.{le-of-eq, le-of-suc-le-suc, mod-mod, mul-comm, zero-add, zero-mod, mod-self, sub-zero}
+use mathlib.Core.Logic.{_≢_}
+use mathlib.Core.Bool.{cond}
+use mathlib.Core.List.{List, [], _∷_, _++_}
+use Prim.Native.Nat.{ℕ, zero, suc, _+_, _-_, _^_, _≤_, _<_}
+use native.Mathlib.Nat.{le-of-eq, suc-ne-zero, mod-mod, mod-eq-of-lt, mod-self, zero-mod}
+use native.Mathlib.Nat.{zero-add, add-zero, zero-mul, mul-zero, one-mul, mul-one, sub-zero}
 use native.Mathlib.Omega.{arith}
 use lib.Dec.{ltb}
 use lib.ListN.{length, getD, take, drop, replicate, length-append, length-drop}
 use lib.Seq.{take-at, take-all, length-take-le}
-use Rattle.words.specs.Word.{addW, negW, subW, mulW, allInWidth}
+use mir.Syntax.{w64}
+use mir.Val.{Val}
+use denote.Array.{Array}
+use denote.Plain.{UInt}
+use denote.Laws.{Is}
+use borrow.Author.Needs.{elem-fits}
+use Rattle.words.specs.Word.{addW, negW, subW, mulW}
 use Rattle.words.proofs.Mod.{mods}
-use Rattle.words.proofs.Width.{width-at}
-use Rattle.ring.specs.Element.{Element, zeroE, zip, sum, difference, held, lower, downW, plusW}
+use Rattle.ring.specs.Element.{Element, zeroE, zip, sum, difference, held, lower, downW, plusW, addScaled}
 use Rattle.ring.proofs.Lists.{length-zip}
-use Rattle.ring.proofs.Zip.{six-words, zip-append, zip-zeros}
+use Rattle.ring.proofs.Zip.{six-words, zip-append, zip-zeros, zip-by, zip-first}
 
 pub held-take : (d : ℕ) (e : Element) → length e ≡ d → take d (held d e) ≡ e
 held-take d e h = take-at (take d e) (drop d (replicate 6 0)) d (length-take-le d e (le-of-eq (sym h))) ∙ take-all d e (le-of-eq h)
@@ -85,12 +92,23 @@ held-six d a ha h =
         ∷ [])
         refl refl refl refl refl refl refl
 
--- the moduli's coefficients are 0 and 1
-pub low-bit : (d : ℕ) (low : Element) → low ≡ held d (lower d) → d ≤ 6 → (j : ℕ) → j < length low → getD low j 0 ≤ 1
-unfolding lower allInWidth
-low-bit d low e h j l =
-    le-of-suc-le-suc
-    (width-at 1 low j (ap (allInWidth 1) e ∙ to-six (λ n. allInWidth 1 (held n (lower n)) ≡ true) refl refl refl refl refl refl refl d h) l)
+-- the moduli's rows: 1 for the constant and for X, or for X squared where X has none
+pub row-second : (d : ℕ) → 2 ≤ d → d ≤ 6 → getD (held d (lower d)) 1 0 ≡ 0 → held d (lower d) ≡ 1 ∷ 0 ∷ 1 ∷ 0 ∷ 0 ∷ 0 ∷ []
+unfolding lower
+row-second d l h =
+    to-six (λ n. 2 ≤ n → getD (held n (lower n)) 1 0 ≡ 0 → held n (lower n) ≡ 1 ∷ 0 ∷ 1 ∷ 0 ∷ 0 ∷ 0 ∷ [])
+    (λ z e. absurd (omega arith)) (λ z e. absurd (omega arith)) (λ z e. absurd (suc-ne-zero 0 e)) (λ z e. absurd (suc-ne-zero 0 e))
+    (λ z e. absurd (suc-ne-zero 0 e)) (λ z e. refl) (λ z e. absurd (suc-ne-zero 0 e)) d h l
+
+pub row-first : (d : ℕ) → 2 ≤ d → d ≤ 6 → getD (held d (lower d)) 1 0 ≢ 0 → held d (lower d) ≡ 1 ∷ 1 ∷ 0 ∷ 0 ∷ 0 ∷ 0 ∷ []
+unfolding lower
+row-first d l h =
+    to-six (λ n. 2 ≤ n → getD (held n (lower n)) 1 0 ≢ 0 → held n (lower n) ≡ 1 ∷ 1 ∷ 0 ∷ 0 ∷ 0 ∷ 0 ∷ [])
+    (λ z e. absurd (omega arith)) (λ z e. absurd (omega arith)) (λ z e. refl) (λ z e. refl) (λ z e. refl) (λ z e. absurd (e refl)) (λ z e. refl) d h l
+
+-- the words of an array are below 2^64; `good` is the parameter's part of `c .good`
+pub word-good : (xs : List ℕ) (vs : List Val) → Is (Array (UInt w64) 6) xs vs → (i : ℕ) → getD xs i 0 < 2 ^ 64
+word-good xs vs good i = elem-fits w64 w64 xs (good .0) i (good .1 .1) tt .fits
 
 -- an operation word by word that takes two zeros to zero keeps the zeros after the d words
 pub zip-held : (f : ℕ → ℕ → ℕ) → f 0 0 ≡ 0 → (d : ℕ) (a b : Element) → length a ≡ d → length b ≡ d → d ≤ 6
@@ -117,11 +135,25 @@ pub difference-held : (k d : ℕ) (a b : Element) → length a ≡ d → length 
     → difference k (held d a) (held d b) ≡ held d (difference k a b)
 difference-held k d a b = zip-held (subW k) (zero-difference k) d a b
 
--- a product by a coefficient 0 or 1 needs no reduction of its own
-pub down-picked : (k top x m : ℕ) → subW k x (m * top) ≡ downW k top x m
+-- the operations of a product with a coefficient 0 or 1 need no product
+pub down-one : (k top x : ℕ) → downW k top x 1 ≡ subW k x top
 unfolding subW negW mulW
-down-picked k top x m = rw (mod-mod, mul-comm m top)
+down-one k top x = rw (mod-mod, mul-one)
 
-pub plus-picked : (k c x y : ℕ) → addW k x (c * y) ≡ plusW k c x y
+pub down-none : (k top x : ℕ) → x < 2 ^ k → downW k top x 0 ≡ x
+unfolding subW negW mulW
+down-none k top x h = rw (mul-zero, zero-mod, zero-mod, sub-zero, mod-self, add-zero) (mod-eq-of-lt h)
+
+plus-one : (k x y : ℕ) → plusW k 1 x y ≡ addW k x y
 unfolding addW mulW
-plus-picked k c x y = simp mods
+plus-one k x y = rw one-mul (simp mods)
+
+plus-none : (k x y : ℕ) → x < 2 ^ k → plusW k 0 x y ≡ x
+unfolding addW mulW
+plus-none k x y h = rw (zero-mul, zero-mod, add-zero) (mod-eq-of-lt h)
+
+pub scaled-one : (k : ℕ) (s b : Element) → addScaled k 1 s b ≡ sum k s b
+scaled-one k = zip-by (plusW k 1) (addW k) (plus-one k)
+
+pub scaled-none : (k : ℕ) (s b : Element) → length s ≡ length b → ((i : ℕ) → getD s i 0 < 2 ^ k) → addScaled k 0 s b ≡ s
+scaled-none k s b h fit = zip-first (plusW k 0) s b h (λ i. plus-none k (getD s i 0) (getD b i 0) (fit i))

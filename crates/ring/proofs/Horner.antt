@@ -1,16 +1,18 @@
 -- A product by Horner's rule, one word of the first factor a turn, over all six words of an array: what stands at d and above never comes down.
 -- Assumes nothing.
 use mathlib.Core.Path.{_≡_, refl, sym, ap, _∙_}
-use mathlib.Core.List.{_∷_}
-use Prim.Native.Nat.{ℕ, zero, suc, _-_, _≤_, _<_}
+use mathlib.Core.Logic.{_≢_}
+use mathlib.Core.List.{[], _∷_}
+use Prim.Native.Nat.{ℕ, zero, suc, _-_, _^_, _≤_, _<_}
 use native.Mathlib.Nat.{not-suc-le-zero, le-of-eq}
 use native.Mathlib.Omega.{arith}
 use lib.ListN.{length, getD, take, drop, drop-of-length-le}
 use lib.Seq.{drop-cons, getD-take, length-take-le}
+use Rattle.words.specs.Word.{subW}
 use Rattle.ring.specs.Element.{Element, zeroE, zip, downW, plusW, addScaled, timesX, product, held, lower}
 use Rattle.ring.proofs.Table.{length-lower}
 use Rattle.ring.proofs.Zip.{zip-take, zip-short, zip-six, zip-shifted}
-use Rattle.ring.proofs.Held.{held-take, to-six}
+use Rattle.ring.proofs.Held.{held-take, to-six, row-first, row-second, down-one, down-none}
 
 -- X times an element, over six words
 pub shift-take : (k d : ℕ) (l r : Element) → length l ≡ d → 1 ≤ d → d ≤ length r
@@ -26,6 +28,39 @@ shift-take k d l r hl h hr =
     ∙ zip-short f d (0 ∷ r) l (le-of-eq hl)
     ∙ sym (zip-short f (suc d) (0 ∷ r) l (omega arith))
     ∙ ap (λ (x : ℕ). zip (downW k x) (0 ∷ take d r) l) top
+
+-- a shift in 64 bits, as its words are computed: the modulus has a 1 for X squared and none for X, or one for X
+pub shift-second : (d t : ℕ) (low r : Element) → low ≡ held d (lower d) → 2 ≤ d → d ≤ 6 → length r ≡ 6 → ((i : ℕ) → getD r i 0 < 2 ^ 64)
+    → getD low 1 0 ≡ 0
+    → subW 64 0 t ∷ getD r 0 0 ∷ subW 64 (getD r 1 0) t ∷ getD r 2 0 ∷ getD r 3 0 ∷ getD r 4 0 ∷ [] ≡ zip (downW 64 t) (0 ∷ r) low
+shift-second d t low r e dl dh hr fit z =
+    let row : low ≡ 1 ∷ 0 ∷ 1 ∷ 0 ∷ 0 ∷ 0 ∷ [] = e ∙ row-second d dl dh (rw e at z) in
+    rw (
+      row,
+      zip-shifted (downW 64 t) r (1 ∷ 0 ∷ 1 ∷ 0 ∷ 0 ∷ 0 ∷ []) hr refl,
+      down-one 64 t 0,
+      down-none 64 t (getD r 0 0) (fit 0),
+      down-one 64 t (getD r 1 0),
+      down-none 64 t (getD r 2 0) (fit 2),
+      down-none 64 t (getD r 3 0) (fit 3),
+      down-none 64 t (getD r 4 0) (fit 4),
+    )
+
+pub shift-first : (d t : ℕ) (low r : Element) → low ≡ held d (lower d) → 2 ≤ d → d ≤ 6 → length r ≡ 6 → ((i : ℕ) → getD r i 0 < 2 ^ 64)
+    → getD low 1 0 ≢ 0
+    → subW 64 0 t ∷ subW 64 (getD r 0 0) t ∷ getD r 1 0 ∷ getD r 2 0 ∷ getD r 3 0 ∷ getD r 4 0 ∷ [] ≡ zip (downW 64 t) (0 ∷ r) low
+shift-first d t low r e dl dh hr fit z =
+    let row : low ≡ 1 ∷ 1 ∷ 0 ∷ 0 ∷ 0 ∷ 0 ∷ [] = e ∙ row-first d dl dh (rw e at z) in
+    rw (
+      row,
+      zip-shifted (downW 64 t) r (1 ∷ 1 ∷ 0 ∷ 0 ∷ 0 ∷ 0 ∷ []) hr refl,
+      down-one 64 t 0,
+      down-one 64 t (getD r 0 0),
+      down-none 64 t (getD r 1 0) (fit 1),
+      down-none 64 t (getD r 2 0) (fit 2),
+      down-none 64 t (getD r 3 0) (fit 3),
+      down-none 64 t (getD r 4 0) (fit 4),
+    )
 
 -- one word more of the first factor
 pub product-step : (k : ℕ) (l a b : Element) (i : ℕ) → 0 < i → i ≤ length a

@@ -222,22 +222,39 @@ module _ (d : ℕ) (dl : 2 ≤ d) (dh : d ≤ 6) where
   unfolding newtons
   reduce-newtons k a y l m n = reduce-newton k a (newtons k d a y n) l (length-newtons k a y l m n)
 
-  -- the inverse, computed: d - 1 squares modulo two, then six steps of Newton
-  pub inverse-computed : (k : ℕ) → 1 ≤ k → k ≤ 64 → (a : Element) → length a ≡ d → newtons k d a (fermat d a (d - 1)) 6 ≡ inverse k d a
-  inverse-computed k h g a l =
+  reduce-fermat : (a : Element) → length a ≡ d → (n : ℕ) → reduce 1 (fermat d a (suc n)) ≡ fermat d a (suc n)
+  unfolding fermat
+  reduce-fermat a l n =
+      let y = product 1 (lower d) (fermat d a n) a in
+      let m : length y ≡ d = length-product 1 (lower d) (fermat d a n) a (l ∙ sym len) ∙ len in
+      reduce-product (le-refl 1) d (lower d) len y y m m
+
+  -- the inverse, computed: d - 1 squares modulo two, then as many steps of Newton as reach k bits
+  pub inverse-computed : (k : ℕ) → 1 ≤ k → (a : Element) → length a ≡ d → (n : ℕ) → k ≤ 2 ^ n
+      → newtons k d a (fermat d a (d - 1)) n ≡ inverse k d a
+  unfolding newtons
+  inverse-computed k h a l n g =
       bool-cases (same (reduce 1 a) (zeroE d)) (λ t. even (same-eq (reduce 1 a) (zeroE d) t))
       (λ f. odd (λ z. true≢false (sym (eq-same (reduce 1 a) (zeroE d) z) ∙ f)))
     where
       y : Element
       y = fermat d a (d - 1)
 
-      even : reduce 1 a ≡ zeroE d → newtons k d a y 6 ≡ inverse k d a
-      even z =
-          let n : d - 1 ≡ suc (d - 2) = omega arith in
-          ap (λ y. newtons k d a y 6) (ap (fermat d a) n ∙ fermat-zero a l z (d - 2)) ∙ newtons-zero k a l 6 ∙ sym (inverse-even k h a l z)
+      squared : y ≡ fermat d a (suc (d - 2))
+      squared = let e : d - 1 ≡ suc (d - 2) = omega arith in ap (fermat d a) e
 
-      odd : reduce 1 a ≢ zeroE d → newtons k d a y 6 ≡ inverse k d a
-      odd n =
-          let m : length y ≡ d = length-fermat d dl dh a l (d - 1) in
-          sym (inverse-unique k h a l (newtons k d a y 6) (length-newtons k a y l m 6) (reduce-newtons k a y l m 5)
-          (newtons-right k a y l m (fermat-inverse d dl dh a l n) 6 k h g (le-refl k)))
+      even : reduce 1 a ≡ zeroE d → newtons k d a y n ≡ inverse k d a
+      even z =
+          ap (λ y. newtons k d a y n) (squared ∙ fermat-zero a l z (d - 2)) ∙ newtons-zero k a l n ∙ sym (inverse-even k h a l z)
+
+      m : length y ≡ d
+      m = length-fermat d dl dh a l (d - 1)
+
+      reduced : (n : ℕ) → k ≤ 2 ^ n → reduce k (newtons k d a y n) ≡ newtons k d a y n
+      reduced zero g = let o : k ≡ 1 = omega arith in ap (λ j. reduce j y) o ∙ ap (reduce 1) squared ∙ reduce-fermat a l (d - 2) ∙ sym squared
+      reduced (suc n) g = reduce-newtons k a y l m n
+
+      odd : reduce 1 a ≢ zeroE d → newtons k d a y n ≡ inverse k d a
+      odd o =
+          sym (inverse-unique k h a l (newtons k d a y n) (length-newtons k a y l m n) (reduced n g)
+          (newtons-right k a y l m (fermat-inverse d dl dh a l o) n k h g (le-refl k)))

@@ -9,6 +9,7 @@ pub mod Points
 pub mod Instance
 pub mod Zip
 pub mod Held
+pub mod Narrow
 pub mod Horner
 pub mod Bits
 pub mod Calls

@@ -50,6 +50,19 @@ unfolding zip
 zip-zeros f zero e = refl
 zip-zeros f (suc n) e = ap₂ _∷_ e (zip-zeros f n e)
 
+pub zip-by : (f g : ℕ → ℕ → ℕ) → ((x y : ℕ) → f x y ≡ g x y) → (a b : Element) → zip f a b ≡ zip g a b
+unfolding zip
+zip-by f g e [] b = refl
+zip-by f g e (x ∷ a) [] = refl
+zip-by f g e (x ∷ a) (y ∷ b) = ap₂ _∷_ (e x y) (zip-by f g e a b)
+
+-- an operation that changes no word of the first list
+pub zip-first : (f : ℕ → ℕ → ℕ) (a b : Element) → length a ≡ length b → ((i : ℕ) → f (getD a i 0) (getD b i 0) ≡ getD a i 0) → zip f a b ≡ a
+unfolding zip
+zip-first f [] b h e = refl
+zip-first f (x ∷ a) [] h e = absurd (suc-ne-zero (length a) h)
+zip-first f (x ∷ a) (y ∷ b) h e = ap₂ _∷_ (e 0) (zip-first f a b (suc-inj h) (λ i. e (suc i)))
+
 -- zip of two lists of six words, as six calls give it
 pub zip-six : (f : ℕ → ℕ → ℕ) (a b : Element) → length a ≡ 6 → length b ≡ 6
     → zip f a b

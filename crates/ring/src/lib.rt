@@ -5,7 +5,7 @@ ghost use mathlib.Core.List.{_∷_, [], _++_};
 ghost use Prim.Native.Nat.{_+_, _-_, _*_, _≤_};
 ghost use lib.Dec.{ltb};
 ghost use lib.ListN.{length, take, drop, getD};
-ghost use Rattle.ring.specs.Element.{zip, sum, difference, held, lower, downW, timesX, plusW, addScaled, product, point, inverse};
+ghost use Rattle.ring.specs.Element.{zip, sum, difference, held, lower, downW, timesX, plusW, addScaled, product, point, reduce, inverse};
 ghost use Rattle.ring.specs.Inversion.{fermat, newton};
 ghost use Rattle.ring.specs.Calls.{operandFault, operandsFault};
 ghost use Rattle.words.specs.Refusal.{kept};
@@ -59,39 +59,20 @@ pub fn difference(k: u64, a: [u64; 6], b: [u64; 6]) -> [u64; 6]
     ]
 }
 
-// c times x where c is 0 or 1.
-fn pick(c: u64, x: u64) -> u64
-    requires { ⌜ c ≤ 1 ⌝ }
-    ensures { λ r. ⌜ r ≡ c * x ⌝ }
-{
-    if c == 0 {
-        return 0;
-    }
-    x
-}
-
-// One word of X times an element: x, from the place below, less the top word where the modulus has a coefficient m, 0 or 1.
-fn down(k: u64, top: u64, x: u64, m: u64) -> u64
-    requires { ⌜ ((1 ≤ k) × (k ≤ 64)) × (m ≤ 1) ⌝ }
-    ensures { λ r. ⌜ r ≡ downW k top x m ⌝ }
-{
-    words::sub(k, x, pick(m, top))
-}
-
-// X times r, over six words. What stands at d and above never comes down, and is not cleared here.
-fn shift(k: u64, d: usize, low: [u64; 6], r: [u64; 6]) -> [u64; 6]
-    requires { ⌜ ((1 ≤ k) × (k ≤ 64)) × ((2 ≤ d) × (d ≤ 6)) × (low ≡ held d (lower d)) ⌝ }
-    ensures { λ s. ⌜ s ≡ zip (downW k (getD r (d - 1) 0)) (0 ∷ r) low ⌝ }
+// X times r in words of 64 bits, over six words. What stands at d and above never comes down, and is not cleared here. Two of the modulus's
+// lower coefficients are 1 and the others 0: the constant, and that of X, or of X squared where X has none.
+fn shift(d: usize, low: [u64; 6], r: [u64; 6]) -> [u64; 6]
+    requires { ⌜ ((2 ≤ d) × (d ≤ 6)) × (low ≡ held d (lower d)) ⌝ }
+    ensures { λ s. ⌜ s ≡ zip (downW 64 (getD r (d - 1) 0)) (0 ∷ r) low ⌝ }
 {
     let top = r[d - 1];
-    [
-        down(k, top, 0, low[0]),
-        down(k, top, r[0], low[1]),
-        down(k, top, r[1], low[2]),
-        down(k, top, r[2], low[3]),
-        down(k, top, r[3], low[4]),
-        down(k, top, r[4], low[5]),
-    ]
+    let constant = words::sub(64, 0, top);
+    if low[1] == 0 {
+        let second = words::sub(64, r[1], top);
+        return [constant, r[0], second, r[2], r[3], r[4]];
+    }
+    let first = words::sub(64, r[0], top);
+    [constant, first, r[1], r[2], r[3], r[4]]
 }
 
 // w at a place j below d, and zero from there on.
@@ -119,73 +100,96 @@ pub fn keep(d: usize, a: [u64; 6]) -> [u64; 6]
     ]
 }
 
+// The lowest k bits of each word.
+pub fn reduce(k: u64, a: [u64; 6]) -> [u64; 6]
+    requires { ⌜ (1 ≤ k) × (k ≤ 64) ⌝ }
+    ensures { λ r. ⌜ r ≡ reduce k a ⌝ }
+{
+    [
+        words::low_bits(a[0], k),
+        words::low_bits(a[1], k),
+        words::low_bits(a[2], k),
+        words::low_bits(a[3], k),
+        words::low_bits(a[4], k),
+        words::low_bits(a[5], k),
+    ]
+}
+
 // X times r.
 pub fn times_x(k: u64, d: usize, low: [u64; 6], r: [u64; 6]) -> [u64; 6]
     requires { ⌜ ((1 ≤ k) × (k ≤ 64)) × ((2 ≤ d) × (d ≤ 6)) × (low ≡ held d (lower d)) ⌝ }
     ensures { λ s. ⌜ s ≡ held d (timesX k (lower d) (take d r)) ⌝ }
 {
-    keep(d, shift(k, d, low, r))
+    reduce(k, keep(d, shift(d, low, r)))
 }
 
-// One word of a sum with a multiple: x plus c times y.
-fn plus(k: u64, c: u64, x: u64, y: u64) -> u64
-    requires { ⌜ (1 ≤ k) × (k ≤ 64) ⌝ }
-    ensures { λ r. ⌜ r ≡ plusW k c x y ⌝ }
+// One word of a sum with a multiple, in 64 bits: x plus c times y.
+fn plus(c: u64, x: u64, y: u64) -> u64
+    ensures { λ r. ⌜ r ≡ plusW 64 c x y ⌝ }
 {
-    words::add(k, x, words::mul(k, c, y))
+    words::add(64, x, words::mul(64, c, y))
+}
+
+// s plus the word c times b, in 64 bits.
+fn add_scaled(c: u64, s: [u64; 6], b: [u64; 6]) -> [u64; 6]
+    ensures { λ r. ⌜ r ≡ addScaled 64 c s b ⌝ }
+{
+    [
+        plus(c, s[0], b[0]),
+        plus(c, s[1], b[1]),
+        plus(c, s[2], b[2]),
+        plus(c, s[3], b[3]),
+        plus(c, s[4], b[4]),
+        plus(c, s[5], b[5]),
+    ]
 }
 
 // The same for c 0 or 1, with no product.
-fn plus_picked(k: u64, c: u64, x: u64, y: u64) -> u64
-    requires { ⌜ ((1 ≤ k) × (k ≤ 64)) × (c ≤ 1) ⌝ }
-    ensures { λ r. ⌜ r ≡ plusW k c x y ⌝ }
+fn add_picked(c: u64, s: [u64; 6], b: [u64; 6]) -> [u64; 6]
+    requires { ⌜ c ≤ 1 ⌝ }
+    ensures { λ r. ⌜ r ≡ addScaled 64 c s b ⌝ }
 {
-    words::add(k, x, pick(c, y))
+    if c == 0 {
+        return s;
+    }
+    sum(64, s, b)
 }
 
-// s plus the word c times b.
-fn add_scaled(k: u64, c: u64, s: [u64; 6], b: [u64; 6]) -> [u64; 6]
-    requires { ⌜ (1 ≤ k) × (k ≤ 64) ⌝ }
-    ensures { λ r. ⌜ r ≡ addScaled k c s b ⌝ }
-{
-    [
-        plus(k, c, s[0], b[0]),
-        plus(k, c, s[1], b[1]),
-        plus(k, c, s[2], b[2]),
-        plus(k, c, s[3], b[3]),
-        plus(k, c, s[4], b[4]),
-        plus(k, c, s[5], b[5]),
-    ]
-}
-
-// The same for c 0 or 1.
-fn add_picked(k: u64, c: u64, s: [u64; 6], b: [u64; 6]) -> [u64; 6]
-    requires { ⌜ ((1 ≤ k) × (k ≤ 64)) × (c ≤ 1) ⌝ }
-    ensures { λ r. ⌜ r ≡ addScaled k c s b ⌝ }
-{
-    [
-        plus_picked(k, c, s[0], b[0]),
-        plus_picked(k, c, s[1], b[1]),
-        plus_picked(k, c, s[2], b[2]),
-        plus_picked(k, c, s[3], b[3]),
-        plus_picked(k, c, s[4], b[4]),
-        plus_picked(k, c, s[5], b[5]),
-    ]
-}
-
-// a times b, by Horner's rule over the words of a from the top.
-pub fn product(k: u64, d: usize, low: [u64; 6], a: [u64; 6], b: [u64; 6]) -> [u64; 6]
-    requires { ⌜ ((1 ≤ k) × (k ≤ 64)) × ((2 ≤ d) × (d ≤ 6)) × (low ≡ held d (lower d)) ⌝ }
-    ensures { λ r. ⌜ r ≡ held d (product k (lower d) (take d a) (take d b)) ⌝ }
+// a times b in words of 64 bits, by Horner's rule over the words of a from the top.
+fn horner_by_words(d: usize, low: [u64; 6], a: [u64; 6], b: [u64; 6]) -> [u64; 6]
+    requires { ⌜ ((2 ≤ d) × (d ≤ 6)) × (low ≡ held d (lower d)) ⌝ }
+    ensures { λ r. ⌜ r ≡ held d (product 64 (lower d) (take d a) (take d b)) ⌝ }
 {
     let mut r = [0u64; 6];
     let mut i = d;
     while 0 < i {
         i -= 1;
-        let s = shift(k, d, low, r);
-        r = add_scaled(k, a[i], s, b);
+        let s = shift(d, low, r);
+        r = add_scaled(a[i], s, b);
     }
     keep(d, r)
+}
+
+// The same. In each arm d and its row are constants, from which the compiler can make code for that d, with no loop and no tests.
+fn product64(d: usize, a: [u64; 6], b: [u64; 6]) -> [u64; 6]
+    requires { ⌜ (2 ≤ d) × (d ≤ 6) ⌝ }
+    ensures { λ r. ⌜ r ≡ held d (product 64 (lower d) (take d a) (take d b)) ⌝ }
+{
+    match d {
+        2 => horner_by_words(2, lower_of(2), a, b),
+        3 => horner_by_words(3, lower_of(3), a, b),
+        4 => horner_by_words(4, lower_of(4), a, b),
+        5 => horner_by_words(5, lower_of(5), a, b),
+        _ => horner_by_words(6, lower_of(6), a, b),
+    }
+}
+
+// a times b: words of 64 bits, reduced once at the end. The row that is handed on is not read here: `product64` reads its own.
+pub fn product(k: u64, d: usize, low: [u64; 6], a: [u64; 6], b: [u64; 6]) -> [u64; 6]
+    requires { ⌜ ((1 ≤ k) × (k ≤ 64)) × ((2 ≤ d) × (d ≤ 6)) × (low ≡ held d (lower d)) ⌝ }
+    ensures { λ r. ⌜ r ≡ held d (product k (lower d) (take d a) (take d b)) ⌝ }
+{
+    reduce(k, product64(d, a, b))
 }
 
 // The point of holder i: word j is bit j of i.
@@ -200,19 +204,41 @@ pub fn point(i: u64) -> [u64; 6]
     [i % 2, i1 % 2, i2 % 2, i3 % 2, i4 % 2, i5 % 2]
 }
 
-// The point of holder i times a: shifts and sums, one for each bit of i from the top.
-pub fn product_by_point(k: u64, d: usize, low: [u64; 6], a: [u64; 6], i: u64) -> [u64; 6]
-    requires { ⌜ ((1 ≤ k) × (k ≤ 64)) × ((2 ≤ d) × (d ≤ 6)) × (low ≡ held d (lower d)) ⌝ }
-    ensures { λ r. ⌜ r ≡ held d (product k (lower d) (point d i) (take d a)) ⌝ }
+// The point of holder i times a in words of 64 bits: shifts and sums, one for each bit of i from the top.
+fn horner_by_bits(d: usize, low: [u64; 6], a: [u64; 6], i: u64) -> [u64; 6]
+    requires { ⌜ ((2 ≤ d) × (d ≤ 6)) × (low ≡ held d (lower d)) ⌝ }
+    ensures { λ r. ⌜ r ≡ held d (product 64 (lower d) (point d i) (take d a)) ⌝ }
 {
     let mut r = [0u64; 6];
     let mut j = d;
     while 0 < j {
         j -= 1;
-        let s = shift(k, d, low, r);
-        r = add_picked(k, (i >> j) % 2, s, a);
+        let s = shift(d, low, r);
+        r = add_picked((i >> j) % 2, s, a);
     }
     keep(d, r)
+}
+
+// The same, with code for each d.
+fn product64_by_point(d: usize, a: [u64; 6], i: u64) -> [u64; 6]
+    requires { ⌜ (2 ≤ d) × (d ≤ 6) ⌝ }
+    ensures { λ r. ⌜ r ≡ held d (product 64 (lower d) (point d i) (take d a)) ⌝ }
+{
+    match d {
+        2 => horner_by_bits(2, lower_of(2), a, i),
+        3 => horner_by_bits(3, lower_of(3), a, i),
+        4 => horner_by_bits(4, lower_of(4), a, i),
+        5 => horner_by_bits(5, lower_of(5), a, i),
+        _ => horner_by_bits(6, lower_of(6), a, i),
+    }
+}
+
+// The point of holder i times a.
+pub fn product_by_point(k: u64, d: usize, low: [u64; 6], a: [u64; 6], i: u64) -> [u64; 6]
+    requires { ⌜ ((1 ≤ k) × (k ≤ 64)) × ((2 ≤ d) × (d ≤ 6)) × (low ≡ held d (lower d)) ⌝ }
+    ensures { λ r. ⌜ r ≡ held d (product k (lower d) (point d i) (take d a)) ⌝ }
+{
+    reduce(k, product64_by_point(d, a, i))
 }
 
 // a^(2^d - 2) modulo two: there the inverse of what has one.
@@ -240,17 +266,17 @@ fn newton(k: u64, d: usize, low: [u64; 6], a: [u64; 6], y: [u64; 6]) -> [u64; 6]
     product(k, d, low, y, q)
 }
 
-// The inverse, or zero for what is zero modulo two: six steps reach 64 bits.
+// The inverse, or zero for what is zero modulo two: w bits of it are right after the steps that double w from 1.
 pub fn inverse_of(k: u64, d: usize, low: [u64; 6], a: [u64; 6]) -> [u64; 6]
     requires { ⌜ ((1 ≤ k) × (k ≤ 64)) × ((2 ≤ d) × (d ≤ 6)) × (low ≡ held d (lower d)) ⌝ }
     ensures { λ r. ⌜ r ≡ held d (inverse k d (take d a)) ⌝ }
 {
     let mut y = fermat(d, low, a);
-    let mut i: usize = 0;
-    while i < 6 {
+    let mut w = 1;
+    while w < k {
         let z = newton(k, d, low, a, y);
         y = z;
-        i += 1;
+        w += w;
     }
     y
 }

@@ -1,3 +1,4 @@
+-- `polynomial::extend` meets its contract: the calls of Newton's step. Assumes nothing.
 use native.Mathlib.Omega.{arith}
 use mathlib.Core.Path.{_≡_}
 use Prim.Native.Nat.{_+_}
@@ -12,56 +13,37 @@ use Rattle.polynomial.proofs.Turns.{extend-calls}
 use borrow.Author.Needs.{needs}
 use Rattle.polynomial.proofs.extend.Statement.{statement}
 use Rattle.polynomial.proofs.extend.Tie as tie
-use Rattle.polynomial.proofs.extend.Reads as reads
-use Rattle.polynomial.proofs.extend.Lts as lts
-use Rattle.polynomial.proofs.eval.Reads as eval-reads
-use Rattle.polynomial.proofs.mix.Reads as mix-reads
-use Rattle.polynomial.proofs.root.Reads as root-reads
-use Rattle.ring.proofs.difference.Reads as difference-reads
-use Rattle.ring.proofs.inverse_of.Reads as inverse-of-reads
-use Rattle.ring.proofs.product.Reads as product-reads
 
--- src/lib.rt:78:9
 eval-requires : tie.Need-eval-requires
 eval-requires c κs = search needs
 
--- src/lib.rt:79:36
 add-eval : tie.Need-add-eval
 add-eval c = search needs
 
--- src/lib.rt:79:9
 eval-requires-2 : tie.Need-eval-requires-2
 eval-requires-2 c κs = search needs
 
--- src/lib.rt:80:9
 inverse-of-requires : tie.Need-inverse-of-requires
 inverse-of-requires c κs = search needs
 
--- src/lib.rt:81:38
 difference-requires : tie.Need-difference-requires
 difference-requires c κs = search needs
 
--- src/lib.rt:81:9
 product-requires : tie.Need-product-requires
 product-requires c κs = search needs
 
--- src/lib.rt:82:53
-add-mix : tie.Need-add-mix
-add-mix c = search needs
+add-subtract-multiple : tie.Need-add-subtract-multiple
+add-subtract-multiple c = search needs
 
--- src/lib.rt:82:5
-mix-requires : tie.Need-mix-requires
-mix-requires c κs = search needs
+subtract-multiple-requires : tie.Need-subtract-multiple-requires
+subtract-multiple-requires c κs = search needs
 
--- src/lib.rt:83:31
 add-root : tie.Need-add-root
 add-root c = search needs
 
--- src/lib.rt:83:5
 root-requires : tie.Need-root-requires
 root-requires c κs = search needs
 
--- src/lib.rt:73:1
 returns : tie.Need-returns
 returns c =
     let m = c .before .before in
@@ -79,7 +61,7 @@ returns c =
     value-length k d (omega arith) (omega arith) (n + 1) l x (shaped-all l (s .pre .5)) (length-point d (s .args .x)) in (
       extend-calls k d (omega arith) (omega arith) n q l _ x (s .args .y) _ _ _ _ _ lv lw (b .before .before .before .before .before .eval .ensures)
           (b .before .before .before .eval2 .ensures) (b .before .before .inverse-of .ensures) (b .before .difference .ensures) (b .product .ensures)
-          (m .mix .ensures),
+          (m .subtract-multiple .ensures),
       c .root .ensures,
     )
 
@@ -93,8 +75,8 @@ extend-spec =
     inverse-of-requires
     difference-requires
     product-requires
-    add-mix
-    mix-requires
+    add-subtract-multiple
+    subtract-multiple-requires
     add-root
     root-requires
     returns)

@@ -65,8 +65,8 @@ plus-requires-6 c κs = search needs
 returns : tie.Need-returns
 returns c =
     let s = c .before .before .before .before .before .before in
-    let ha : length (s .args .t3) ≡ 6 = omega (arith, s .good) in
-    let hb : length (s .args .t4) ≡ 6 = omega (arith, s .good) in
+    let ha : length (s .args .t2) ≡ 6 = omega (arith, s .good) in
+    let hb : length (s .args .t3) ≡ 6 = omega (arith, s .good) in
     rw (
       c .before .before .before .before .before .plus .ensures,
       c .before .before .before .before .plus2 .ensures,
@@ -75,7 +75,7 @@ returns c =
       c .before .plus5 .ensures,
       c .plus6 .ensures,
     )
-    (sym (zip-six (plusW (s .args .k) (s .args .c)) (s .args .t3) (s .args .t4) ha hb))
+    (sym (zip-six (plusW 64 (s .args .c)) (s .args .t2) (s .args .t3) ha hb))
 
 pub add-scaled-spec : {M : Type 1} → statement M
 add-scaled-spec =

@@ -1,103 +1,30 @@
--- `ring::product` meets its contract: a turn of the loop takes one word more of the first factor. Assumes nothing.
-use borrow.Author.Needs.{needs}
+-- `ring::product` meets its contract: the product in 64 bits, cut to k. Assumes nothing.
 use native.Mathlib.Omega.{arith}
-use mathlib.Core.Path.{_≡_, refl, sym, _∙_}
-use Prim.Native.Nat.{_-_, _≤_}
-use lib.ListN.{length, take, drop, getD}
-use lib.Seq.{length-take-le, getD-take}
-use Rattle.ring.specs.Element.{downW, plusW, lower, product}
-use Rattle.ring.proofs.Table.{length-lower}
-use Rattle.ring.proofs.Lists.{length-product}
-use Rattle.ring.proofs.Held.{held-same}
-use Rattle.ring.proofs.Horner.{turn, turn-length, no-turn}
+use mathlib.Core.Path.{_≡_, _∙_}
+use lib.ListN.{length, take}
+use lib.Seq.{length-take-le}
+use Rattle.ring.proofs.Narrow.{narrow-product}
+use borrow.Author.Needs.{needs}
 use Rattle.ring.proofs.product.Statement.{statement}
 use Rattle.ring.proofs.product.Tie as tie
 
-abbrev Inv-loop : tie.InvT-loop
-Inv-loop k d low b a r₀ i₀ r i = (i ≤ d) × (length r ≡ 6) × (take d r ≡ product k (lower d) (drop i (take d a)) (take d b))
+product64-requires : tie.Need-product64-requires
+product64-requires c κs = search needs
 
-abbrev μ-loop : tie.MeasureT-loop
-μ-loop k d low b a r₀ i₀ r i = i
+reduce-requires : tie.Need-reduce-requires
+reduce-requires c κs = search needs
 
-loop-holds : tie.Need-loop-holds Inv-loop μ-loop
-loop-holds c =
-    let d = c .args .d in
-    let h₆ : length (c .args .t4) ≡ 6 = omega (arith, c .good) in
-    let ha : length (take d (c .args .t4)) ≡ d = length-take-le d (c .args .t4) (omega arith) in
-    (search needs, refl, no-turn (c .args .k) d (take (c .args .d) (c .args .t4)) (take d (c .args .b)) (omega arith) (omega arith) ha)
-
-sub-i : tie.Need-sub-i Inv-loop μ-loop
-sub-i c = search needs
-
-shift-requires : tie.Need-shift-requires Inv-loop μ-loop
-shift-requires c κs = search needs
-
-mul-add-scaled : tie.Need-mul-add-scaled Inv-loop μ-loop
-mul-add-scaled c = search needs
-
-array-read-add-scaled : tie.Need-array-read-add-scaled Inv-loop μ-loop
-array-read-add-scaled c = search needs
-
-add-scaled-requires : tie.Need-add-scaled-requires Inv-loop μ-loop
-add-scaled-requires c κs = search needs
-
-loop-less : tie.Need-loop-less Inv-loop μ-loop
-loop-less c = search needs
-
-loop-again : tie.Need-loop-again Inv-loop μ-loop
-loop-again c =
-    let l = c .before .before .before in
-    let s = l .before in
+returns : tie.Need-returns
+returns c =
+    let s = c .before .before in
     let k = s .args .k in
     let d = s .args .d in
-    let i = l .loop .i in
-    let r = l .loop .r in
-    let low = s .args .low in
-    let a = (take (s .args .d) (s .args .t4)) in
-    let b = (s .args .b) in
-    let hb : length b ≡ 6 = omega (arith, s .good) in
-    let hl : length low ≡ 6 = omega (arith, s .good) in
-    let h₆ : length (s .args .t4) ≡ 6 = omega (arith, s .good) in
-    let ha : length a ≡ d = length-take-le d (s .args .t4) (omega arith) in
-    let c₁ = getD (s .args .t4) (i - 1) 0 in (
-      omega arith,
-      rw (c .add-scaled .ensures, c .before .shift .ensures) (turn-length (plusW k c₁) (downW k (getD r (d - 1) 0)) r low b (l .loop .inv .1) hl hb),
-      rw (c .add-scaled .ensures, c .before .shift .ensures, s .pre .2)
-          (turn k d r a b i c₁ (omega arith) (omega arith) (omega arith) (omega arith) (omega arith)
-          (sym (getD-take d (s .args .t4) (i - 1) 0 (omega arith))) (l .loop .inv .2)),
-    )
-
-keep-requires : tie.Need-keep-requires Inv-loop μ-loop
-keep-requires c κs = search needs
-
-returns : tie.Need-returns Inv-loop μ-loop
-returns c =
-    let l = c .before .before in
-    let s = l .before in
-    let d = s .args .d in
-    let b = (s .args .b) in
-    let hb : length b ≡ 6 = omega (arith, s .good) in
-    let hl : length (lower d) ≡ d = length-lower d (omega arith) (omega arith) in
-    let e : l .loop .i ≡ 0 = omega arith in
-    let a = take d (s .args .t4) in
-    let p = product (s .args .k) (lower d) a (take d b) in
-    let q : take d (l .loop .r) ≡ p = rw e at (l .loop .inv .2) in
-    let hp : length p ≡ d = length-product (s .args .k) (lower d) a (take d b) (length-take-le d b (omega arith) ∙ sym hl) ∙ hl in
-    c .keep .ensures ∙ held-same d (l .loop .r) p q hp
+    let h₅ : length (s .args .a) ≡ 6 = omega (arith, s .good) in
+    let h₆ : length (s .args .b) ≡ 6 = omega (arith, s .good) in
+    c .reduce .ensures
+    ∙ rw (c .before .product64 .ensures)
+    (narrow-product {j = k} (omega arith) d (omega arith) (omega arith) (take d (s .args .a)) (take d (s .args .b))
+    (length-take-le d (s .args .a) (omega arith)) (length-take-le d (s .args .b) (omega arith)))
 
 pub product-spec : {M : Type 1} → statement M
-product-spec =
-    tie.close
-    (tie.spec
-    Inv-loop
-    μ-loop
-    loop-holds
-    sub-i
-    shift-requires
-    mul-add-scaled
-    array-read-add-scaled
-    add-scaled-requires
-    loop-less
-    loop-again
-    keep-requires
-    returns)
+product-spec = tie.close (tie.spec product64-requires reduce-requires returns)

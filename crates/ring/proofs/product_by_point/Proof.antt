@@ -1,99 +1,31 @@
--- `ring::product_by_point` meets its contract: a turn of the loop takes one bit more of the holder. Assumes nothing.
-use borrow.Author.Needs.{needs}
+-- `ring::product_by_point` meets its contract: the product in 64 bits, cut to k. Assumes nothing.
 use native.Mathlib.Omega.{arith}
-use mathlib.Core.Path.{_≡_, refl, _∙_, sym}
-use Prim.Native.Nat.{_-_, _/_, _%_, _^_, _≤_}
-use lib.ListN.{length, take, drop, getD}
+use mathlib.Core.Path.{_≡_, _∙_}
+use lib.ListN.{length, take}
 use lib.Seq.{length-take-le}
-use Rattle.ring.specs.Element.{downW, plusW, lower, point, product}
-use Rattle.ring.proofs.Table.{length-lower}
-use Rattle.ring.proofs.Lists.{length-product}
-use Rattle.ring.proofs.Held.{held-same}
-use Rattle.ring.proofs.Bits.{point-at}
+use Rattle.ring.specs.Element.{point}
 use Rattle.ring.proofs.Points.{length-point}
-use Rattle.ring.proofs.Horner.{turn, turn-length, no-turn}
+use Rattle.ring.proofs.Narrow.{narrow-product}
+use borrow.Author.Needs.{needs}
 use Rattle.ring.proofs.product_by_point.Statement.{statement}
 use Rattle.ring.proofs.product_by_point.Tie as tie
 
-abbrev Inv-loop : tie.InvT-loop
-Inv-loop k d low a i r₀ j₀ r j = (j ≤ d) × (length r ≡ 6) × (take d r ≡ product k (lower d) (drop j (point d i)) (take d a))
+product64-by-point-requires : tie.Need-product64-by-point-requires
+product64-by-point-requires c κs = search needs
 
-abbrev μ-loop : tie.MeasureT-loop
-μ-loop k d low a i r₀ j₀ r j = j
+reduce-requires : tie.Need-reduce-requires
+reduce-requires c κs = search needs
 
-loop-holds : tie.Need-loop-holds Inv-loop μ-loop
-loop-holds c =
-    let d = c .args .d in
-    let ha : length (point d (c .args .i)) ≡ d = length-point d (c .args .i) in
-    (search needs, refl, no-turn (c .args .k) d (point (c .args .d) (c .args .i)) (take d (c .args .a)) (omega arith) (omega arith) ha)
-
-sub-j : tie.Need-sub-j Inv-loop μ-loop
-sub-j c = search needs
-
-shift-requires : tie.Need-shift-requires Inv-loop μ-loop
-shift-requires c κs = search needs
-
-shr-add-picked : tie.Need-shr-add-picked Inv-loop μ-loop
-shr-add-picked c = search needs
-
-add-picked-requires : tie.Need-add-picked-requires Inv-loop μ-loop
-add-picked-requires c κs = search needs
-
-loop-less : tie.Need-loop-less Inv-loop μ-loop
-loop-less c = search needs
-
-loop-again : tie.Need-loop-again Inv-loop μ-loop
-loop-again c =
-    let l = c .before .before .before in
-    let s = l .before in
+returns : tie.Need-returns
+returns c =
+    let s = c .before .before in
     let k = s .args .k in
     let d = s .args .d in
-    let i = l .loop .j in
-    let r = l .loop .r in
-    let low = s .args .low in
-    let a = (point (s .args .d) (s .args .i)) in
-    let b = (s .args .a) in
-    let hb : length b ≡ 6 = omega (arith, s .good) in
-    let hl : length low ≡ 6 = omega (arith, s .good) in
-    let ha : length a ≡ d = length-point d (s .args .i) in
-    let c₁ = s .args .i / 2 ^ (i - 1) % 2 in (
-      omega arith,
-      rw (c .add-picked .ensures, c .before .shift .ensures) (turn-length (plusW k c₁) (downW k (getD r (d - 1) 0)) r low b (l .loop .inv .1) hl hb),
-      rw (c .add-picked .ensures, c .before .shift .ensures, s .pre .2)
-          (turn k d r a b i c₁ (omega arith) (omega arith) (omega arith) (omega arith) (omega arith)
-          (sym (point-at d (s .args .i) (i - 1) (omega arith))) (l .loop .inv .2)),
-    )
-
-keep-requires : tie.Need-keep-requires Inv-loop μ-loop
-keep-requires c κs = search needs
-
-returns : tie.Need-returns Inv-loop μ-loop
-returns c =
-    let l = c .before .before in
-    let s = l .before in
-    let d = s .args .d in
-    let b = (s .args .a) in
-    let hb : length b ≡ 6 = omega (arith, s .good) in
-    let hl : length (lower d) ≡ d = length-lower d (omega arith) (omega arith) in
-    let e : l .loop .j ≡ 0 = omega arith in
-    let a = point d (s .args .i) in
-    let p = product (s .args .k) (lower d) a (take d b) in
-    let q : take d (l .loop .r) ≡ p = rw e at (l .loop .inv .2) in
-    let hp : length p ≡ d = length-product (s .args .k) (lower d) a (take d b) (length-take-le d b (omega arith) ∙ sym hl) ∙ hl in
-    c .keep .ensures ∙ held-same d (l .loop .r) p q hp
+    let h₆ : length (s .args .a) ≡ 6 = omega (arith, s .good) in
+    c .reduce .ensures
+    ∙ rw (c .before .product64-by-point .ensures)
+    (narrow-product {j = k} (omega arith) d (omega arith) (omega arith) (point d (s .args .i)) (take d (s .args .a))
+    (length-point d (s .args .i)) (length-take-le d (s .args .a) (omega arith)))
 
 pub product-by-point-spec : {M : Type 1} → statement M
-product-by-point-spec =
-    tie.close
-    (tie.spec
-    Inv-loop
-    μ-loop
-    loop-holds
-    sub-j
-    shift-requires
-    shr-add-picked
-    add-picked-requires
-    loop-less
-    loop-again
-    keep-requires
-    returns)
+product-by-point-spec = tie.close (tie.spec product64-by-point-requires reduce-requires returns)

@@ -1,20 +1,13 @@
--- `ring::shift` meets its contract: six words one place up. Assumes nothing.
+-- `ring::shift` meets its contract: six words one place up, for both places of the modulus's second 1. Assumes nothing.
 use native.Mathlib.Omega.{arith}
-use mathlib.Core.Path.{_≡_, sym}
-use Prim.Native.Nat.{ℕ, _-_, _≤_, _<_}
+use mathlib.Core.Path.{_≡_}
+use Prim.Native.Nat.{_-_}
 use lib.ListN.{length, getD}
-use Rattle.ring.specs.Element.{downW}
-use Rattle.ring.proofs.Zip.{zip-shifted}
-use Rattle.ring.proofs.Held.{low-bit}
+use Rattle.ring.proofs.Held.{word-good}
+use Rattle.ring.proofs.Horner.{shift-first, shift-second}
 use borrow.Author.Needs.{needs}
 use Rattle.ring.proofs.shift.Statement.{statement}
 use Rattle.ring.proofs.shift.Tie as tie
-
--- the modulus's coefficients are 0 and 1
-coefficient : (s : tie.Start) (j : ℕ) → j < 6 → getD (s .args .t3) j 0 ≤ 1
-coefficient s j h =
-    let hl : length (s .args .t3) ≡ 6 = omega (arith, s .good) in
-    low-bit (s .args .d) (s .args .t3) (s .pre .2) (s .pre .1 .1) j (omega arith)
 
 sub-top : tie.Need-sub-top
 sub-top c = search needs
@@ -25,71 +18,67 @@ mul-top c = search needs
 array-read-top : tie.Need-array-read-top
 array-read-top c = search needs
 
-array-read-down : tie.Need-array-read-down
-array-read-down c = search needs
+sub-requires : tie.Need-sub-requires
+sub-requires c κs = search needs
 
-down-requires : tie.Need-down-requires
-down-requires c κs = (c .pre .0, coefficient c 0 (omega arith))
+array-read-if1 : tie.Need-array-read-if1
+array-read-if1 c = search needs
 
-array-read-down-2 : tie.Need-array-read-down-2
-array-read-down-2 c = search needs
+array-read-sub : tie.Need-array-read-sub
+array-read-sub c = search needs
 
-array-read-down-3 : tie.Need-array-read-down-3
-array-read-down-3 c = search needs
+sub-requires-2 : tie.Need-sub-requires-2
+sub-requires-2 c κs = search needs
 
-down-requires-2 : tie.Need-down-requires-2
-down-requires-2 c κs = (c .before .pre .0, coefficient (c .before) 1 (omega arith))
+array-read-t20 : tie.Need-array-read-t20
+array-read-t20 c = search needs
 
-array-read-down-4 : tie.Need-array-read-down-4
-array-read-down-4 c = search needs
+array-read-t25 : tie.Need-array-read-t25
+array-read-t25 c = search needs
 
-array-read-down-5 : tie.Need-array-read-down-5
-array-read-down-5 c = search needs
+array-read-t28 : tie.Need-array-read-t28
+array-read-t28 c = search needs
 
-down-requires-3 : tie.Need-down-requires-3
-down-requires-3 c κs = (c .before .before .pre .0, coefficient (c .before .before) 2 (omega arith))
-
-array-read-down-6 : tie.Need-array-read-down-6
-array-read-down-6 c = search needs
-
-array-read-down-7 : tie.Need-array-read-down-7
-array-read-down-7 c = search needs
-
-down-requires-4 : tie.Need-down-requires-4
-down-requires-4 c κs = (c .before .before .before .pre .0, coefficient (c .before .before .before) 3 (omega arith))
-
-array-read-down-8 : tie.Need-array-read-down-8
-array-read-down-8 c = search needs
-
-array-read-down-9 : tie.Need-array-read-down-9
-array-read-down-9 c = search needs
-
-down-requires-5 : tie.Need-down-requires-5
-down-requires-5 c κs = (c .before .before .before .before .pre .0, coefficient (c .before .before .before .before) 4 (omega arith))
-
-array-read-down-10 : tie.Need-array-read-down-10
-array-read-down-10 c = search needs
-
-array-read-down-11 : tie.Need-array-read-down-11
-array-read-down-11 c = search needs
-
-down-requires-6 : tie.Need-down-requires-6
-down-requires-6 c κs = (c .before .before .before .before .before .pre .0, coefficient (c .before .before .before .before .before) 5 (omega arith))
+array-read-t31 : tie.Need-array-read-t31
+array-read-t31 c = search needs
 
 returns : tie.Need-returns
 returns c =
-    let s = c .before .before .before .before .before .before in
-    let hl : length (s .args .t3) ≡ 6 = omega (arith, s .good) in
-    let hr : length (s .args .t4) ≡ 6 = omega (arith, s .good) in
-    rw (
-      c .before .before .before .before .before .down .ensures,
-      c .before .before .before .before .down2 .ensures,
-      c .before .before .before .down3 .ensures,
-      c .before .before .down4 .ensures,
-      c .before .down5 .ensures,
-      c .down6 .ensures,
-    )
-    (sym (zip-shifted (downW (s .args .k) (getD (s .args .t4) (s .args .d - 1) 0)) (s .args .t4) (s .args .t3) hr hl))
+    let s = c .before .before .before in
+    let d = s .args .d in
+    let r = s .args .t3 in
+    let hr : length r ≡ 6 = omega (arith, s .good) in
+    rw (c .sub2 .ensures, c .before .before .sub .ensures)
+    (shift-second d (getD r (d - 1) 0) (s .args .t2) r (s .pre .1) (omega arith) (omega arith) hr
+    (word-good r _ (s .good .1 .1 .0)) (c .before .if1 .taken))
+
+array-read-sub-2 : tie.Need-array-read-sub-2
+array-read-sub-2 c = search needs
+
+sub-requires-3 : tie.Need-sub-requires-3
+sub-requires-3 c κs = search needs
+
+array-read-t14 : tie.Need-array-read-t14
+array-read-t14 c = search needs
+
+array-read-t38 : tie.Need-array-read-t38
+array-read-t38 c = search needs
+
+array-read-t41 : tie.Need-array-read-t41
+array-read-t41 c = search needs
+
+array-read-t44 : tie.Need-array-read-t44
+array-read-t44 c = search needs
+
+returns-2 : tie.Need-returns-2
+returns-2 c =
+    let s = c .before .before .before in
+    let d = s .args .d in
+    let r = s .args .t3 in
+    let hr : length r ≡ 6 = omega (arith, s .good) in
+    rw (c .sub3 .ensures, c .before .before .sub .ensures)
+    (shift-first d (getD r (d - 1) 0) (s .args .t2) r (s .pre .1) (omega arith) (omega arith) hr
+    (word-good r _ (s .good .1 .1 .0)) (c .before .if1 .left))
 
 pub shift-spec : {M : Type 1} → statement M
 shift-spec =
@@ -98,21 +87,19 @@ shift-spec =
     sub-top
     mul-top
     array-read-top
-    array-read-down
-    down-requires
-    array-read-down-2
-    array-read-down-3
-    down-requires-2
-    array-read-down-4
-    array-read-down-5
-    down-requires-3
-    array-read-down-6
-    array-read-down-7
-    down-requires-4
-    array-read-down-8
-    array-read-down-9
-    down-requires-5
-    array-read-down-10
-    array-read-down-11
-    down-requires-6
-    returns)
+    sub-requires
+    array-read-if1
+    array-read-sub
+    sub-requires-2
+    array-read-t20
+    array-read-t25
+    array-read-t28
+    array-read-t31
+    returns
+    array-read-sub-2
+    sub-requires-3
+    array-read-t14
+    array-read-t38
+    array-read-t41
+    array-read-t44
+    returns-2)

@@ -1,0 +1,65 @@
+-- `polynomial::eval64` meets its contract: in each arm the loop's contract at that d. Assumes nothing.
+use native.Mathlib.Omega.{arith}
+use mathlib.Core.Path.{_≡_}
+use Prim.Native.Nat.{ℕ, _≤_}
+use Rattle.words.proofs.InRange.{six}
+use Rattle.ring.specs.Element.{held, lower}
+use Rattle.polynomial.specs.Rows.{Shaped}
+use Rattle.polynomial.proofs.eval64.Statement.{statement}
+use Rattle.polynomial.proofs.eval64.Tie as tie
+
+-- what the loop's call asks, at each d
+asked : (s : tie.Start) (n : ℕ) → s .args .d ≡ n → 2 ≤ n → n ≤ 6
+    → ((2 ≤ n) × (n ≤ 6)) × (s .args .low ≡ held n (lower n)) × (s .args .len ≤ 64) × Shaped (s .args .p .now)
+asked s n e l h = ((l, h), rw e at (s .pre .1), s .pre .2, s .pre .3)
+
+horner-requires : tie.Need-horner-requires
+horner-requires c κs = asked (c .before) 2 (c .match .keys1) (omega arith) (omega arith)
+
+horner-requires-2 : tie.Need-horner-requires-2
+horner-requires-2 c κs = asked (c .before) 3 (c .match .keys2) (omega arith) (omega arith)
+
+horner-requires-3 : tie.Need-horner-requires-3
+horner-requires-3 c κs = asked (c .before) 4 (c .match .keys3) (omega arith) (omega arith)
+
+horner-requires-4 : tie.Need-horner-requires-4
+horner-requires-4 c κs = asked (c .before) 5 (c .match .keys4) (omega arith) (omega arith)
+
+horner-requires-5 : tie.Need-horner-requires-5
+horner-requires-5 c κs =
+    let r = c .match .rest in
+    let d = c .before .args .d in
+    asked (c .before) 6 (six d (omega arith) (omega arith) (r .0 .0 .0 .1) (r .0 .0 .1) (r .0 .1) (r .1)) (omega arith) (omega arith)
+
+returns : tie.Need-returns
+returns c = rw (c .before .match .keys1) (c .horner .ensures)
+
+returns-2 : tie.Need-returns-2
+returns-2 c = rw (c .before .match .keys2) (c .horner2 .ensures)
+
+returns-3 : tie.Need-returns-3
+returns-3 c = rw (c .before .match .keys3) (c .horner3 .ensures)
+
+returns-4 : tie.Need-returns-4
+returns-4 c = rw (c .before .match .keys4) (c .horner4 .ensures)
+
+returns-5 : tie.Need-returns-5
+returns-5 c =
+    let r = c .before .match .rest in
+    let d = c .before .before .args .d in
+    rw (six d (omega arith) (omega arith) (r .0 .0 .0 .1) (r .0 .0 .1) (r .0 .1) (r .1)) (c .horner5 .ensures)
+
+pub eval64-spec : {M : Type 1} → statement M
+eval64-spec =
+    tie.close
+    (tie.spec
+    horner-requires
+    horner-requires-2
+    horner-requires-3
+    horner-requires-4
+    horner-requires-5
+    returns
+    returns-2
+    returns-3
+    returns-4
+    returns-5)

@@ -1,0 +1,106 @@
+-- Words of k bits may be cut to j bits at any time: a sum, or X times an element, at k bits, cut to j, is the one at j bits
+-- (`reduce-product` of Lists says so of a product). And the cut of an array of six. Assumes nothing.
+use mathlib.Core.Path.{_≡_, refl, sym, ap, ap₂, _∙_}
+use mathlib.Core.List.{[], _∷_, _++_}
+use Prim.Native.Nat.{ℕ, zero, suc, _+_, _-_, _*_, _/_, _%_, _^_, _≤_}
+use native.Mathlib.Nat.{zero-mod, le-of-eq, mod-mod, mod-lt, mod-add-div, add-mod-mod, add-mul-mod-self-left}
+use native.Mathlib.Omega.{arith}
+use lib.Pow.{pow-pos}
+use lib.ListN.{length, getD, take}
+use lib.Seq.{take-all}
+use Rattle.words.specs.Word.{addW, negW, subW, mulW}
+use Rattle.words.proofs.Mod.{mods, mod-narrow, sub-law}
+use Rattle.ring.specs.Element.{Element, zeroE, zip, sum, downW, lower, timesX, product, reduce, held}
+use Rattle.ring.proofs.Lists.{length-reduce, length-product, reduce-product}
+use Rattle.ring.proofs.Table.{length-lower}
+use Rattle.ring.proofs.Zip.{six-words}
+use Rattle.ring.proofs.Held.{zeros-after}
+
+-- words
+add-narrow : {j k : ℕ} → j ≤ k → (x y : ℕ) → addW k x y % 2 ^ j ≡ addW j x y
+unfolding addW
+add-narrow {j} {k} h x y = mod-narrow (x + y) j k h
+
+-- a difference with its second operand is the first
+sub-back : (k x y : ℕ) → (subW k x y + y) % 2 ^ k ≡ x % 2 ^ k
+unfolding subW negW
+sub-back k x y =
+    simp mods
+    (ap (λ (m : ℕ). m % 2 ^ k) (omega (arith, mod-add-div y (2 ^ k), mod-lt y (pow-pos k)))
+    ∙ add-mul-mod-self-left x (2 ^ k) (suc (y / 2 ^ k)))
+
+sub-narrow : {j k : ℕ} → j ≤ k → (x y : ℕ) → subW k x y % 2 ^ j ≡ subW j x y
+unfolding subW negW
+sub-narrow {j} {k} h x y =
+    sub-law (subW k x y) x y (2 ^ j) (pow-pos j)
+    (sym (mod-narrow (subW k x y + y) j k h) ∙ ap (λ (m : ℕ). m % 2 ^ j) (sub-back k x y) ∙ mod-narrow x j k h)
+
+-- a difference depends on its second operand modulo 2^k alone
+sub-mod : (k x y : ℕ) → subW k x (y % 2 ^ k) ≡ subW k x y
+unfolding subW negW
+sub-mod k x y = rw mod-mod
+
+down-narrow : {j k : ℕ} → j ≤ k → (t x m : ℕ) → downW k t x m % 2 ^ j ≡ downW j t x m
+unfolding mulW
+down-narrow {j} {k} h t x m =
+    sub-narrow h x (mulW k t m) ∙ sym (sub-mod j x (mulW k t m)) ∙ ap (subW j x) (mod-narrow (t * m) j k h)
+
+-- lists
+reduce-zip : (j : ℕ) (f g : ℕ → ℕ → ℕ) → ((x y : ℕ) → f x y % 2 ^ j ≡ g x y) → (a b : Element) → reduce j (zip f a b) ≡ zip g a b
+unfolding zip reduce
+reduce-zip j f g e [] b = refl
+reduce-zip j f g e (x ∷ a) [] = refl
+reduce-zip j f g e (x ∷ a) (y ∷ b) = ap₂ _∷_ (e x y) (reduce-zip j f g e a b)
+
+pub reduce-sum : {j k : ℕ} → j ≤ k → (a b : Element) → reduce j (sum k a b) ≡ sum j a b
+reduce-sum {j} {k} h = reduce-zip j (addW k) (addW j) (add-narrow h)
+
+-- and the cut of an operand changes nothing
+pub sum-reduce : (j : ℕ) (a b : Element) → sum j a (reduce j b) ≡ sum j a b
+unfolding zip reduce addW
+sum-reduce j [] b = refl
+sum-reduce j (x ∷ a) [] = refl
+sum-reduce j (x ∷ a) (y ∷ b) = ap₂ _∷_ (add-mod-mod x y (2 ^ j)) (sum-reduce j a b)
+
+pub reduce-timesX : {j k : ℕ} → j ≤ k → (l r : Element) → reduce j (timesX k l r) ≡ timesX j l r
+unfolding timesX
+reduce-timesX {j} {k} h l r =
+    let t = getD r (length r - 1) 0 in
+    reduce-zip j (downW k t) (downW j t) (down-narrow h t) (0 ∷ r) l
+
+-- arrays of six
+pub reduce-six : (k : ℕ) (a : Element) → length a ≡ 6
+    → reduce k a
+    ≡ getD a 0 0 % 2 ^ k
+    ∷ getD a 1 0 % 2 ^ k
+    ∷ getD a 2 0 % 2 ^ k
+    ∷ getD a 3 0 % 2 ^ k
+    ∷ getD a 4 0 % 2 ^ k
+    ∷ getD a 5 0 % 2 ^ k
+    ∷ []
+unfolding reduce
+reduce-six k a h = ap (reduce k) (six-words a h)
+
+reduce-append : (k : ℕ) (a b : Element) → reduce k (a ++ b) ≡ reduce k a ++ reduce k b
+unfolding reduce
+reduce-append k [] b = refl
+reduce-append k (x ∷ a) b = ap (λ (l : Element). x % 2 ^ k ∷ l) (reduce-append k a b)
+
+pub reduce-zeros : (k n : ℕ) → reduce k (zeroE n) ≡ zeroE n
+unfolding reduce
+reduce-zeros k zero = refl
+reduce-zeros k (suc n) = ap₂ _∷_ (zero-mod (2 ^ k)) (reduce-zeros k n)
+
+pub reduce-held : (k d : ℕ) (e : Element) → length e ≡ d → d ≤ 6 → reduce k (held d e) ≡ held d (reduce k e)
+reduce-held k d e l h =
+    let t : take d e ≡ e = take-all d e (le-of-eq l) in
+    let u : take d (reduce k e) ≡ reduce k e = take-all d (reduce k e) (le-of-eq (length-reduce k e ∙ l)) in
+    rw (t, u, zeros-after d h) (reduce-append k e (zeroE (6 - d)) ∙ ap (λ (l : Element). reduce k e ++ l) (reduce-zeros k (6 - d)))
+
+-- a product in more bits, in its array, cut to fewer
+pub narrow-product : {j k : ℕ} → j ≤ k → (d : ℕ) → 2 ≤ d → d ≤ 6 → (a b : Element) → length a ≡ d → length b ≡ d
+    → reduce j (held d (product k (lower d) a b)) ≡ held d (product j (lower d) a b)
+narrow-product {j} {k} h d dl dh a b la lb =
+    let hl : length (lower d) ≡ d = length-lower d dl dh in
+    reduce-held j d (product k (lower d) a b) (length-product k (lower d) a b (lb ∙ sym hl) ∙ hl) dh
+    ∙ ap (held d) (reduce-product h d (lower d) hl a b la lb)
