@@ -1,6 +1,6 @@
 -- Interpolation, in Newton's form: through n points with invertible differences and any n values goes exactly one polynomial of n
--- coefficients (`interp-hits`, `interp-only`). Assumes nothing.
-use mathlib.Core.Path.{_≡_, refl, sym, _∙_}
+-- coefficients (`interp-hits`, `interp-only`); and the same of its values alone, without division (`excess-more`). Assumes nothing.
+use mathlib.Core.Path.{_≡_, refl, sym, _∙_, ap}
 use mathlib.Core.List.{List, [], _∷_}
 use Prim.Native.Nat.{suc}
 use native.Mathlib.Omega.{arith}
@@ -21,6 +21,9 @@ use Rattle.algebra.proofs.Ring.{
   unit-swap,
   add-sub-left,
   ring,
+  differ,
+  cross,
+  differences,
   inv-right,
 }
 use Rattle.algebra.proofs.Poly.{lin, mulx, scale, eval-lin, eval-mulx, length-scale, length-padd, low-length}
@@ -94,3 +97,25 @@ module _ (D : DiscreteRing) where
     where
       none : (g : List E) → All (λ r. eval R g (r .at) ≡ r .val) ss → count (misses D g) ss ≡ 0
       none g b = count-none (misses D g) ss (all-map (λ r e. rw (e, D .eqb-refl (r .val))) ss b)
+
+  -- by how much it misses a share
+  abbrev pub excess : List (Share R) → Share R → E
+  excess ss r = eval R (interp ss) (r .at) ⊕ ⊖ (r .val)
+
+  -- one share more without a division: up to a factor that is the same for all shares
+  pub excess-more : (s : Share R) (ss : List (Share R)) (u : E) → Unit-of R (eval R (nodal R ss) (s .at)) → (r : Share R) →
+      eval R (nodal R ss) (s .at) ⊗ (u ⊗ excess ss r) ⊕ ⊖ (u ⊗ excess ss s) ⊗ eval R (nodal R ss) (r .at)
+      ≡ u ⊗ eval R (nodal R ss) (s .at) ⊗ excess (s ∷ ss) r
+  excess-more s ss u h r =
+      sym
+      (ap (λ z. u ⊗ n ⊗ (z ⊕ ⊖ (r .val))) (eval-lin R 𝟙 (interp ss) _ (nodal R ss) (r .at))
+      ∙ out u n (eval R (interp ss) (r .at)) (eval R (interp ss) (s .at)) (s .val) (r .val) (inv n) (eval R (nodal R ss) (r .at))
+      ∙ ap (λ z. n ⊗ (u ⊗ excess ss r) ⊕ z ⊗ (⊖ (u ⊗ excess ss s) ⊗ eval R (nodal R ss) (r .at))) (inv-right D n h)
+      ∙ ap (λ z. n ⊗ (u ⊗ excess ss r) ⊕ z) (one-mul R (⊖ (u ⊗ excess ss s) ⊗ eval R (nodal R ss) (r .at))))
+    where
+      n : E
+      n = eval R (nodal R ss) (s .at)
+
+      out : (u n q p v w i z : E) →
+          u ⊗ n ⊗ (𝟙 ⊗ q ⊕ (v ⊕ ⊖ p) ⊗ i ⊗ z ⊕ ⊖ w) ≡ n ⊗ (u ⊗ (q ⊕ ⊖ w)) ⊕ i ⊗ n ⊗ (⊖ (u ⊗ (p ⊕ ⊖ v)) ⊗ z)
+      out u n q p v w i z = differ R _ _ (simp differences (cross R (simp ring)))

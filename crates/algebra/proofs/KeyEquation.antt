@@ -1,6 +1,6 @@
 -- The key equation of Welch and Berlekamp, solved point by point: two pairs of polynomials that are zero at the shares, their leading
 -- terms, and the step that takes in one share more and keeps all that (`inv-step`). Over a field. Assumes nothing.
-use mathlib.Core.Path.{_≡_, refl, sym, _∙_, ap, ap₂}
+use mathlib.Core.Path.{_≡_, refl, sym, _∙_, ap}
 use mathlib.Core.Bool.{Bool, true, false}
 use mathlib.Core.List.{List, [], _∷_}
 use mathlib.Core.Logic.{_≢_, _⊎_, inl, inr, ⊎-map}
@@ -19,8 +19,6 @@ use Rattle.algebra.proofs.Poly.{
   lin,
   mulx,
   Lo,
-  Same,
-  eval-same,
   eval-lin,
   eval-mulx,
   coef-lin,
@@ -60,13 +58,13 @@ module _ (R : CommRing) where
   abbrev pub gap : List E → List E → Share R → E
   gap a b s = eval R a (s .at) ⊕ eval R b (s .at) ⊗ s .val
 
-  gap-mulx : (x : E) (a b : List E) (s : Share R) → gap (mulx R x a) (mulx R x b) s ≡ (s .at ⊕ ⊖ x) ⊗ gap a b s
+  pub gap-mulx : (x : E) (a b : List E) (s : Share R) → gap (mulx R x a) (mulx R x b) s ≡ (s .at ⊕ ⊖ x) ⊗ gap a b s
   gap-mulx x a b s = step (eval-mulx R x a (s .at)) (eval-mulx R x b (s .at))
     where
       step : {w u v u′ v′ y : E} → u′ ≡ w ⊗ u → v′ ≡ w ⊗ v → u′ ⊕ v′ ⊗ y ≡ w ⊗ (u ⊕ v ⊗ y)
       step h k = rw (h, k) (simp ring)
 
-  gap-lin : (u v : E) (a b a′ b′ : List E) (s : Share R) → gap (lin R u a v a′) (lin R u b v b′) s ≡ u ⊗ gap a b s ⊕ v ⊗ gap a′ b′ s
+  pub gap-lin : (u v : E) (a b a′ b′ : List E) (s : Share R) → gap (lin R u a v a′) (lin R u b v b′) s ≡ u ⊗ gap a b s ⊕ v ⊗ gap a′ b′ s
   gap-lin u v a b a′ b′ s = step (eval-lin R u a v a′ (s .at)) (eval-lin R u b v b′ (s .at))
     where
       step : {u v m n k l p q y : E} → p ≡ u ⊗ m ⊕ v ⊗ n → q ≡ u ⊗ k ⊕ v ⊗ l → p ⊕ q ⊗ y ≡ u ⊗ (m ⊕ k ⊗ y) ⊕ v ⊗ (n ⊕ l ⊗ y)
@@ -142,32 +140,6 @@ module _ (R : CommRing) where
   keeps : (u v : E) (a b a′ b′ : List E) (ss : List (Share R)) → All (λ s. gap a b s ≡ 𝟘) ss → All (λ s. gap a′ b′ s ≡ 𝟘) ss →
       All (λ s. gap (lin R u a v a′) (lin R u b v b′) s ≡ 𝟘) ss
   keeps u v a b a′ b′ ss h k = all-map₂ (λ s e f. gap-lin u v a b a′ b′ s ∙ simp (e, f, mul-zero, add-zero)) ss h k
-
-  -- The invariant goes by the coefficients alone, so pairs kept in lists of a fixed length, padded with zeros, serve too.
-  pub record Alike (p p′ : Pairs) : Type 0 where
-    pub a₀ : Same R (p .a₀) (p′ .a₀)
-    pub b₀ : Same R (p .b₀) (p′ .b₀)
-    pub d₀ : p .d₀ ≡ p′ .d₀
-    pub a₁ : Same R (p .a₁) (p′ .a₁)
-    pub b₁ : Same R (p .b₁) (p′ .b₁)
-    pub d₁ : p .d₁ ≡ p′ .d₁
-
-  gap-same : (a b a′ b′ : List E) → Same R a a′ → Same R b b′ → (s : Share R) → gap a b s ≡ 𝟘 → gap a′ b′ s ≡ 𝟘
-  gap-same a b a′ b′ h k s e = sym (ap₂ (λ u v. u ⊕ v ⊗ s .val) (eval-same R a a′ (s .at) h) (eval-same R b b′ (s .at) k)) ∙ e
-
-  half-same : {d s : ℕ} {p : List E} {n r : ℕ} {q : List E} (p′ q′ : List E) → Same R p p′ → Same R q q′ → Half d s p n r q →
-      Half d s p′ n r q′
-  half-same p′ q′ h k l = record
-      { fit = l .fit; top = λ j e z. l .top j e (h j ∙ z); low = λ j m. sym (h j) ∙ l .low j m; oth = λ j m. sym (k j) ∙ l .oth j m }
-
-  pub inv-same : (t : ℕ) (ss : List (Share R)) (p p′ : Pairs) → Alike p p′ → Inv t ss p → Inv t ss p′
-  inv-same t ss p p′ l h = record {
-    zero₀ = all-map (gap-same (p .a₀) (p .b₀) (p′ .a₀) (p′ .b₀) (l .a₀) (l .b₀)) ss (h .zero₀);
-    zero₁ = all-map (gap-same (p .a₁) (p .b₁) (p′ .a₁) (p′ .b₁) (l .a₁) (l .b₁)) ss (h .zero₁);
-    half₀ = rw (← l .d₀) (half-same (p′ .a₀) (p′ .b₀) (l .a₀) (l .b₀) (h .half₀));
-    half₁ = rw (← l .d₁) (half-same (p′ .b₁) (p′ .a₁) (l .b₁) (l .a₁) (h .half₁));
-    sum = omega (arith, h .sum, l .d₀, l .d₁);
-  }
 
 module _ (D : DiscreteRing) where
   open DiscreteRing D using (ring as R, eqb)

@@ -3,9 +3,10 @@
 use mathlib.Core.Path.{_≡_, refl, sym, _∙_, ap}
 use mathlib.Core.Bool.{Bool, true, false, not}
 use mathlib.Core.List.{List, [], _∷_}
-use Prim.Native.Nat.{ℕ, zero, suc, _+_, _*_, _≤_}
+use Prim.Native.Nat.{ℕ, zero, suc, _+_, _*_, _≤_, _<_}
+use native.Mathlib.Nat.{not-suc-le-zero, le-of-suc-le-suc}
 use native.Mathlib.Omega.{arith}
-use lib.ListN.{length, take}
+use lib.ListN.{length, take, getD}
 use lib.Seq.{ext-getD}
 use Rattle.algebra.specs.Ring.{CommRing, DiscreteRing}
 use Rattle.algebra.specs.Poly.{eval, coef}
@@ -21,6 +22,12 @@ module _ {S : Type 0} where
   pub all-map₂ : {P Q T : S → Type 0} (f : (s : S) → P s → Q s → T s) (ss : List S) → All P ss → All Q ss → All T ss
   all-map₂ f [] a b = tt
   all-map₂ f (s ∷ ss) a b = (f s (a .0) (b .0), all-map₂ f ss (a .1) (b .1))
+
+  -- what holds of each holds of the one at a place
+  pub all-at : (P : S → Type 0) (ss : List S) (i : ℕ) (z : S) → All P ss → i < length ss → P (getD ss i z)
+  all-at P [] i z a h = absurd (not-suc-le-zero h)
+  all-at P (s ∷ ss) zero z a h = a .0
+  all-at P (s ∷ ss) (suc i) z a h = all-at P ss i z (a .1) (le-of-suc-le-suc h)
 
   pub count-none : (t : S → Bool) (ss : List S) → All (λ s. t s ≡ false) ss → count t ss ≡ 0
   count-none t [] a = refl

@@ -18,7 +18,7 @@ use Rattle.ring.proofs.Lists.{toList, ofList, length-toList, width-to, sum-of}
 use Rattle.codewords.specs.Codeword.{Share}
 use Rattle.codewords.specs.WellFormed.{IsElement, InWidth, Rising, Holders}
 use Rattle.codewords.proofs.Find.{zero-element}
-use Rattle.codewords.proofs.Rise.{rising-different}
+use Rattle.codewords.proofs.Without.{rising-different}
 use Rattle.decoder.specs.Decoded.{Ordered}
 use Rattle.sharing.specs.Opening.{answerTo}
 use Rattle.records.specs.Layout.{orderSize}

@@ -1,11 +1,11 @@
--- The error set as a number: bit h − 1 of it is set for each differing holder h and for no other, so it has as many ones as shares differ
--- (`ones-errors`), whatever order the holders come in. Assumes nothing.
+-- The error set as a number: bit h − 1 of it is set for each differing holder h and for no other (`bit-differs`, `bit-clear`), so it has as
+-- many ones as shares differ (`ones-errors`), whatever order the holders come in. Assumes nothing.
 use mathlib.Core.Path.{_≡_, refl, sym, _∙_, ap}
 use mathlib.Core.Bool.{Bool, true, false}
 use mathlib.Core.Logic.{_≢_}
 use mathlib.Core.List.{List, [], _∷_}
 use Prim.Native.Nat.{ℕ, suc, _+_, _-_, _*_, _/_, _%_, _^_, _≤_, _<_}
-use native.Mathlib.Nat.{mod-lt, zero-div, zero-add, add-div-right, add-mul-div-right, le-dest, pow-suc}
+use native.Mathlib.Nat.{mod-lt, zero-div, zero-add, add-comm, add-div-right, add-mul-div-right, le-dest, pow-suc}
 use native.Mathlib.Decide.{decLe}
 use native.Mathlib.Omega.{arith}
 use lib.Pow.{pow-pos, pow-add, split, shr-shr}
@@ -97,3 +97,34 @@ module _ (k d : ℕ) (p : Polynomial) where
           ∙ ones-new (errorSet k d p ss) (s .holder - 1) (bit-clear ss (s .holder - 1) (a .1) (u .1) (rw (up (s .holder) (a .0)) (u .0)))
           ∙ omega arith
       go false h = ap ones (zero-add (errorSet k d p ss)) ∙ h ∙ sym (zero-add (errors k d p ss))
+
+  -- the bit of a holder that is there is set exactly where its share differs
+  pub bit-differs : (ss : List Share) → All (λ (s : Share). 1 ≤ s .holder) ss → Different ss →
+      All (λ (s : Share). errorSet k d p ss / 2 ^ (s .holder - 1) % 2 ≡ when (differs k d p s) 1) ss
+  unfolding errorSet
+  bit-differs [] a u = tt
+  bit-differs (s ∷ ss) a u =
+      let x = bit-clear ss (s .holder - 1) (a .1) (u .1) (rw (up (s .holder) (a .0)) (u .0)) in
+      (own (differs k d p s) x, others (differs k d p s) x ss (a .1) (u .0) (bit-differs ss (a .1) (u .1)))
+    where
+      w : ℕ
+      w = errorSet k d p ss
+
+      j : ℕ
+      j = s .holder - 1
+
+      own : (b : Bool) → w / 2 ^ j % 2 ≡ 0 → (when b (2 ^ j) + w) / 2 ^ j % 2 ≡ when b 1
+      own true x = ap (λ n. n / 2 ^ j % 2) (add-comm (2 ^ j) w) ∙ ap (λ n. n % 2) (add-div-right w (pow-pos j)) ∙ omega arith
+      own false x = rw zero-add x
+
+      others : (b : Bool) → w / 2 ^ j % 2 ≡ 0 → (rs : List Share) → All (λ (r : Share). 1 ≤ r .holder) rs →
+          All (λ (r : Share). s .holder ≢ r .holder) rs → All (λ (r : Share). w / 2 ^ (r .holder - 1) % 2 ≡ when (differs k d p r) 1) rs →
+          All (λ (r : Share). (when b (2 ^ j) + w) / 2 ^ (r .holder - 1) % 2 ≡ when (differs k d p r) 1) rs
+      others b x [] c n h = tt
+      others b x (r ∷ rs) c n h = (one b, others b x rs (c .1) (n .1) (h .1))
+        where
+          one : (b : Bool) → (when b (2 ^ j) + w) / 2 ^ (r .holder - 1) % 2 ≡ when (differs k d p r) 1
+          one true =
+              ap (λ n. n / 2 ^ (r .holder - 1) % 2) (add-comm (2 ^ j) w)
+              ∙ bit-other w j (r .holder - 1) (λ e. n .0 (omega (arith, a .0, c .0))) x ∙ h .0
+          one false = rw zero-add (h .0)

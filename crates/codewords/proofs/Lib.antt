@@ -1,9 +1,10 @@
 pub mod Candidate
 pub mod ErrorSet
 pub mod Find
-pub mod Join
+pub mod Jump
 pub mod Linear
-pub mod Raised
-pub mod Rise
+pub mod Reduction
+pub mod Residue
 pub mod Unique
 pub mod Value
+pub mod Without

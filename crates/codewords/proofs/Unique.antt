@@ -16,7 +16,7 @@ use Rattle.algebra.specs.Shares.{All, Apart}
 use Rattle.algebra.proofs.Shares as A
 use Rattle.ring.specs.Element.{Element, zeroE, reduce}
 use Rattle.ring.proofs.Galois.{GR}
-use Rattle.ring.proofs.Lists.{toList, ofList, to-of}
+use Rattle.ring.proofs.Lists.{toList, ofList, of-to, to-of}
 use Rattle.ring.proofs.Points.{points-apart}
 use Rattle.ring.proofs.Instance.{ringOf}
 use Rattle.codewords.specs.Codeword.{Share, Polynomial, errors, polynomials, codeword}
@@ -28,6 +28,10 @@ use Rattle.codewords.proofs.Value.{shareOf, polyOf, rows-of, count-erro
 pub poly-to : (k d : ℕ) (p : Polynomial) → All (IsElement k d) p → map toList (polyOf k d p) ≡ p
 poly-to k d [] h = refl
 poly-to k d (c ∷ p) h = ap₂ _∷_ (to-of k d c (h .0 .0) ∙ fixed k d c (h .0)) (poly-to k d p (h .1))
+
+pub poly-back : (k d : ℕ) (f : List (GR d k .E)) → polyOf k d (map toList f) ≡ f
+poly-back k d [] = refl
+poly-back k d (u ∷ f) = ap₂ _∷_ (of-to k u) (poly-back k d f)
 
 pub poly-inj : (k d t : ℕ) (p q : Polynomial) → IsPoly k d t p → IsPoly k d t q → polyOf k d p ≡ polyOf k d q → p ≡ q
 poly-inj k d t p q h g e = sym (poly-to k d p (h .1)) ∙ ap (map toList) e ∙ poly-to k d q (g .1)

@@ -1,27 +1,28 @@
 -- Values, shares and errors of the definitions, as those of the ring: `value` is the ring's value, a share in width differs exactly when the
--- ring says that the polynomial misses it, and a share of any words that does not differ is not missed. Assumes nothing.
+-- ring says that the polynomial misses it, and a share of any words that does not differ is not missed; the zero polynomial. Assumes nothing.
 use mathlib.Core.Path.{_≡_, refl, sym, _∙_, ap, ap₂}
 use mathlib.Core.Bool.{Bool, true, false, not}
 use mathlib.Core.List.{List, [], _∷_, map}
-use Prim.Native.Nat.{ℕ, _+_, _≤_}
+use Prim.Native.Nat.{ℕ, zero, suc, _+_, _≤_}
 use native.Mathlib.Omega.{arith}
-use lib.ListN.{length}
+use lib.ListN.{length, replicate, length-replicate}
+use borrow.Author.Tests.{not-false}
 use Rattle.words.proofs.Tests.{same-test}
 use Rattle.algebra.specs.Poly.{eval}
 use Rattle.algebra.specs.Shares as A
 use Rattle.algebra.specs.Shares.{bit, count, All, misses}
-use Rattle.algebra.proofs.Ring.{eqb-true}
+use Rattle.algebra.proofs.Ring.{add-zero, mul-zero, eqb-true}
 use Rattle.algebra.proofs.Shares.{all-map}
-use Rattle.ring.specs.Element.{Element, sum, product, lower, point, same}
+use Rattle.ring.specs.Element.{Element, sum, product, lower, zeroE, point, same}
 use Rattle.ring.proofs.Galois.{GR}
 use Rattle.ring.proofs.Table.{length-lower}
-use Rattle.ring.proofs.Lists.{toList, ofList, length-toList, of-to, to-of, width-to, zero-of, sum-of, product-of}
+use Rattle.ring.proofs.Lists.{toList, ofList, length-toList, of-to, to-of, width-to, zero-of, of-zero, sum-of, product-of}
 use Rattle.ring.proofs.Elements.{same-eq, eq-same}
 use Rattle.ring.proofs.Points.{length-point, pointR}
 use Rattle.ring.proofs.Instance.{ringOf}
 use Rattle.codewords.specs.Codeword.{Share, Polynomial, value, differs, errors, when}
 use Rattle.codewords.specs.WellFormed.{IsElement, IsPoly, InWidth}
-use Rattle.codewords.proofs.Find.{fixed}
+use Rattle.codewords.proofs.Find.{fixed, zero-element}
 
 -- a share and a polynomial in the ring: words are cut to k bits
 abbrev pub shareOf : (k d : ℕ) → Share → A.Share (GR d k)
@@ -36,6 +37,19 @@ Rows d p = All (λ c. length c ≡ d) p
 
 pub rows-of : (k d t : ℕ) (p : Polynomial) → IsPoly k d t p → Rows d p
 rows-of k d t p h = all-map (λ c e. e .0) p (h .1)
+
+-- a share does not differ exactly when it holds the value
+module _ (k d : ℕ) (p : Polynomial) (s : Share) where
+  pub right-same : differs k d p s ≡ false → same (s .words) (value k d p (point d (s .holder))) ≡ true
+  unfolding differs
+  right-same e = not-false (same (s .words) (value k d p (point d (s .holder)))) e
+
+  pub right-value : differs k d p s ≡ false → s .words ≡ value k d p (point d (s .holder))
+  right-value e = same-eq (s .words) (value k d p (point d (s .holder))) (right-same e)
+
+  pub value-right : s .words ≡ value k d p (point d (s .holder)) → differs k d p s ≡ false
+  unfolding differs
+  value-right e = ap not (eq-same (s .words) (value k d p (point d (s .holder))) e)
 
 module _ (d : ℕ) (dl : 2 ≤ d) (dh : d ≤ 6) (k : ℕ) where
   pub value-of : (p : Polynomial) → Rows d p → (x : Element) → length x ≡ d →
@@ -66,6 +80,10 @@ module _ (d : ℕ) (dl : 2 ≤ d) (dh : d ≤ 6) (k : ℕ) where
   pub same-value : (p : Polynomial) → Rows d p → (s : Share) → same (s .words) (value k d p (point d (s .holder))) ≡ true →
       eval (GR d k) (polyOf k d p) (shareOf k d s .at) ≡ shareOf k d s .val
   same-value p h s e = sym (ap (ofList k d) (same-eq (s .words) (value k d p (point d (s .holder))) e ∙ value-at p h s) ∙ of-to k _)
+
+  pub right-meets : (p : Polynomial) → Rows d p → (s : Share) → differs k d p s ≡ false →
+      eval (GR d k) (polyOf k d p) (shareOf k d s .at) ≡ shareOf k d s .val
+  right-meets p h s e = same-value p h s (right-same k d p s e)
 
   -- so it is not missed
   pub misses-le : (p : Polynomial) → Rows d p → (s : Share) → bit (misses (ringOf d k) (polyOf k d p) (shareOf k d s)) ≤ bit (differs k d p s)
@@ -120,3 +138,23 @@ module _ (d : ℕ) (dl : 2 ≤ d) (dh : d ≤ 6) (k : ℕ) where
           ≡ bit (misses (ringOf d k) (polyOf k d p) (shareOf k d s)) + count (misses (ringOf d k) (polyOf k d p)) (map (shareOf k d) ss)
       go true x y = ap₂ (λ m n. m + n) (ap bit x) y
       go false x y = ap₂ (λ m n. m + n) (ap bit x) y
+
+-- the zero polynomial
+module _ (k d : ℕ) where
+  pub zero-is-poly : (t : ℕ) → IsPoly k d t (replicate (suc t) (zeroE d))
+  zero-is-poly t = (length-replicate (suc t) (zeroE d), all (suc t))
+    where
+      all : (n : ℕ) → All (IsElement k d) (replicate n (zeroE d))
+      all zero = tt
+      all (suc n) = (zero-element k d, all n)
+
+  zero-eval : (n : ℕ) (x : GR d k .E) → eval (GR d k) (polyOf k d (replicate n (zeroE d))) x ≡ GR d k .𝟘
+  zero-eval zero x = refl
+  zero-eval (suc n) x =
+      let R = GR d k in
+      ap₂ (λ c u. R .add c (R .mul x u)) (of-zero k d) (zero-eval n x) ∙ ap (R .add (R .𝟘)) (mul-zero R x) ∙ add-zero R (R .𝟘)
+
+  pub zero-value : 2 ≤ d → d ≤ 6 → (t : ℕ) (s : Share) → value k d (replicate (suc t) (zeroE d)) (point d (s .holder)) ≡ zeroE d
+  zero-value dl dh t s =
+      let z = replicate (suc t) (zeroE d) in
+      value-at d dl dh k z (rows-of k d t z (zero-is-poly t)) s ∙ ap toList (zero-eval (suc t) (shareOf k d s .at)) ∙ sym (zero-of k d)

@@ -1,3 +1,3 @@
 pub mod Codeword
-pub mod Levels
+pub mod Residue
 pub mod WellFormed

@@ -1,6 +1,6 @@
-pub mod Glue
-pub mod Risen
-pub mod Raised
-pub mod Remaining
 pub mod Arrays
-pub mod Turn
+pub mod Compared
+pub mod Dropped
+pub mod Interpolated
+pub mod Lowest
+pub mod Sought

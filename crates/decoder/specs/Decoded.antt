@@ -1,16 +1,17 @@
 -- What decoding asks and gives, paper 01, "Ring, points, shares": the codeword's error set or that there is none, and its coefficients in rows.
 -- Assumes nothing.
-use mathlib.Core.List.{List}
+use mathlib.Core.List.{List, _++_, map}
 use mathlib.Core.Option.{Option, none, some}
 use Prim.Native.Nat.{ℕ, _≤_}
+use lib.ListN.{length, drop, replicate}
 use Rattle.algebra.specs.Shares.{All}
+use Rattle.ring.specs.Element.{held}
 use Rattle.polynomial.specs.Polynomial.{Polynomial}
 use Rattle.polynomial.specs.Rows.{Rows}
 use Rattle.codewords.specs.Codeword.{Share, errorSet}
 use Rattle.codewords.specs.WellFormed.{Rising}
 use Rattle.level.specs.declared.Level.{Level}
 use Rattle.level.specs.declared.Level.the-variants.{Codeword, Nothing}
-use Rattle.decoder.specs.Raised.{rowsOf}
 
 -- the refusal "a holder is outside 1 to n, holders do not strictly rise" does not apply
 abbrev pub Ordered : ℕ → List Share → Type 0
@@ -21,6 +22,10 @@ unfoldable pub answer : ℕ → ℕ → List Share → Option Polynomial → Lev
 unfolding errorSet
 answer k d ss none = Nothing
 answer k d ss (some q) = Codeword (errorSet k d q ss)
+
+-- a polynomial in an array of 64 rows, zeros after its coefficients
+abbrev pub rowsOf : ℕ → Polynomial → Rows
+rowsOf d q = map (held d) q ++ drop (length q) (replicate 64 (replicate 6 0))
 
 -- "Outputs keep their old contents", or take the codeword's coefficients
 unfoldable pub stored : ℕ → Option Polynomial → Rows → Rows

@@ -1,2 +1,2 @@
 pub mod Decoded
-pub mod Raised
+pub mod Residues

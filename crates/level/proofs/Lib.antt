@@ -1,7 +1,9 @@
-pub mod Codewords
-pub mod Differing
-pub mod Gathered
-pub mod Pairs
-pub mod Parts
-pub mod Run
+pub mod AtBit
+pub mod Decision
+pub mod Lanes
+pub mod Located
+pub mod Rests
 pub mod Shares
+pub mod Trusted
+pub mod Turns
+pub mod Verdict

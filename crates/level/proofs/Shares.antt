@@ -2,20 +2,32 @@
 -- Assumes nothing.
 use mathlib.Core.Path.{_≡_, refl, _∙_, ap}
 use mathlib.Core.List.{List, [], _∷_}
-use Prim.Native.Nat.{ℕ, zero, suc, _-_, _≤_, _<_}
+use Prim.Native.Nat.{ℕ, zero, suc, _+_, _-_, _≤_, _<_}
 use native.Mathlib.Nat.{not-suc-le-zero}
 use native.Mathlib.Omega.{arith}
-use lib.ListN.{length}
+use lib.ListN.{length, getD, drop}
 use Rattle.polynomial.specs.Rows.{Rows}
 use Rattle.codewords.specs.Codeword.{Share}
 use Rattle.codewords.specs.WellFormed.{Holders}
 use Rattle.level.specs.Shares.{shareAt, sharesFrom, sharesOf, Sized}
+
+pub holders-drop : (d : ℕ) (ss : List Share) (i : ℕ) → Holders d ss → Holders d (drop i ss)
+holders-drop d ss zero a = a
+holders-drop d [] (suc i) a = a
+holders-drop d (s ∷ ss) (suc i) a = holders-drop d ss i (a .0 .1, a .1 .1)
 
 module _ (d : ℕ) (hs : List ℕ) (ys : Rows) where
   pub length-from : (i n : ℕ) → length (sharesFrom d hs ys i n) ≡ n
   unfolding sharesFrom
   length-from i zero = refl
   length-from i (suc n) = ap suc (length-from (suc i) n)
+
+  -- the share at a place
+  pub from-at : (i n j : ℕ) (z : Share) → j < n → getD (sharesFrom d hs ys i n) j z ≡ shareAt d hs ys (i + j)
+  unfolding sharesFrom
+  from-at i zero j z h = absurd (not-suc-le-zero h)
+  from-at i (suc n) zero z h = let e : i ≡ i + 0 = omega arith in ap (shareAt d hs ys) e
+  from-at i (suc n) (suc j) z h = let e : suc i + j ≡ i + suc j = omega arith in from-at (suc i) n j z (omega arith) ∙ ap (shareAt d hs ys) e
 
   pub from-start : (m : ℕ) → sharesFrom d hs ys m (m - m) ≡ []
   unfolding sharesFrom

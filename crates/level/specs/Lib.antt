@@ -1,4 +1,4 @@
+pub mod Interpolation
 pub mod KeyEquation
 pub mod Level
 pub mod Shares
-pub mod Trusted

@@ -1,12 +1,16 @@
 -- Shares as they are lent to the decoder: holders in one array, words in another, of which the first m count. Assumes nothing.
 use mathlib.Core.Path.{_≡_}
-use mathlib.Core.List.{List, [], _∷_}
-use Prim.Native.Nat.{ℕ, zero, suc}
-use lib.ListN.{length, take, getD}
+use mathlib.Core.Bool.{Bool, true, false}
+use mathlib.Core.List.{List, [], _∷_, _++_, map}
+use Prim.Native.Nat.{ℕ, zero, suc, _-_, _/_, _%_, _^_, _≤_, _<_}
+use lib.Bits.{bitOr}
+use lib.Dec.{eqb}
+use lib.ListN.{length, take, drop, getD, replicate}
 use Rattle.algebra.specs.Shares.{All}
-use Rattle.ring.specs.Element.{Element}
+use Rattle.ring.specs.Element.{Element, held}
 use Rattle.polynomial.specs.Rows.{Rows}
-use Rattle.codewords.specs.Codeword.{Share}
+use Rattle.codewords.specs.Codeword.{Share, Polynomial}
+use Rattle.codewords.specs.Residue.{residue}
 
 abbrev pub share : ℕ → Element → Share
 share x y = record { holder = x; words = y }
@@ -26,3 +30,23 @@ sharesOf d m hs ys = sharesFrom d hs ys 0 m
 -- shares of d words
 abbrev pub Sized : ℕ → List Share → Type 0
 Sized d = All (λ (s : Share). length (s .words) ≡ d)
+
+-- what a polynomial leaves of shares, in the first of 63 rows
+abbrev pub residueRow : ℕ → ℕ → Polynomial → Share → List ℕ
+residueRow k d p s = held d (residue k d p s)
+
+abbrev pub residuesOf : ℕ → ℕ → Polynomial → List Share → Rows
+residuesOf k d p ss = map (residueRow k d p) ss ++ drop (length ss) (replicate 63 (replicate 6 0))
+
+-- the first m holders are numbers that a set of 64 bits has room for
+abbrev pub Numbered : ℕ → List ℕ → Type 0
+Numbered m hs = (i : ℕ) → i < m → (1 ≤ getD hs i 0) × (getD hs i 0 ≤ 63)
+
+-- the set of the holders, of n from index i on, whose places are in the set w
+abbrev pub orIf : Bool → ℕ → ℕ → ℕ
+orIf true b r = bitOr r b
+orIf false b r = r
+
+unfoldable pub holderSet : ℕ → List ℕ → ℕ → ℕ → ℕ
+holderSet w hs i zero = 0
+holderSet w hs i (suc n) = orIf (eqb (w / 2 ^ i % 2) 1) (2 ^ (getD hs i 0 - 1)) (holderSet w hs (suc i) n)

@@ -22,7 +22,7 @@ use Rattle.algebra.proofs.Shares.{all-map}
 use Rattle.ring.specs.Calls.{paramsFault, lengthFault, widthFault}
 use Rattle.codewords.specs.Codeword.{Share}
 use Rattle.codewords.specs.WellFormed.{InWidth, Rising, Holders}
-use Rattle.codewords.proofs.Rise.{rising-different}
+use Rattle.codewords.proofs.Without.{rising-different}
 use Rattle.sharing.specs.Opening.{lent, risingTo, lentFault}
 use Rattle.sharing.proofs.Faults.{ranged, sized, narrow}
 

@@ -1,47 +1,118 @@
--- `level::decide` meets its contract: the ones of the error set are the shares that differ. Assumes nothing.
+-- `level::decide` meets its contract: the lanes are the shares of one bit, and the verdict is the codeword's. Assumes nothing.
 use native.Mathlib.Omega.{arith}
 use borrow.Author.Needs.{needs}
-use mathlib.Core.List.{List, map}
-use Prim.Native.Nat.{suc, _+_, _*_, _≤_}
+use mathlib.Core.Path.{_≡_}
 use lib.Count.{ones-le}
-use lib.ListN.{length, length-map}
-use Rattle.polynomial.specs.Rows.{coefs}
-use Rattle.codewords.specs.Codeword.{Share}
-use Rattle.codewords.specs.Levels.{bits}
-use Rattle.codewords.proofs.Rise.{holders-bits}
-use Rattle.level.specs.Shares.{sharesOf}
-use Rattle.level.proofs.Shares.{length-from}
-use Rattle.level.proofs.Codewords.{decide-found, decide-none}
+use lib.ListN.{length}
+use Rattle.polynomial.specs.Rows.{Shaped}
+use Rattle.polynomial.proofs.Shape.{shaped-good}
+use Rattle.level.proofs.Decision.{rest-length, numbered, holders-length, decides-few, decides-found, decides-none}
 use Rattle.level.proofs.decide.Statement.{statement}
 use Rattle.level.proofs.decide.Tie as tie
 
-abbrev shares : tie.Start → List Share
-shares s = sharesOf (s .args .d) (s .args .m) (s .args .hs .now) (s .args .ys .now)
+-- the polynomial's array has 64 rows of six
+shaped : (s : tie.Start) → Shaped (s .args .p)
+shaped s = let h : length (s .args .p) ≡ 64 = omega (arith, s .good) in shaped-good (s .args .p) _ h (s .good .1 .1 .1 .0)
 
-enough : (s : tie.Start) → suc (s .args .t) + 2 * s .args .e ≤ length (map bits (shares s))
-enough s = omega (arith, length-map (shares s) bits, length-from (s .args .d) (s .args .hs .now) (s .args .ys .now) 0 (s .args .m))
+residues-requires : tie.Need-residues-requires
+residues-requires c κs = search needs
 
-error-set-requires : tie.Need-error-set-requires
-error-set-requires c κs = search needs
+slice-requires : tie.Need-slice-requires
+slice-requires c κs =
+    let r = c .before in
+    let s = r .before in
+    let a = s .args in (
+      omega arith,
+      omega arith,
+      rest-length (a .k) (a .d) (omega arith) (omega arith) (a .p) (shaped s) (a .v) (a .t) (a .e) (a .m) (a .hs .now) (a .ys .now) (omega arith)
+          (s .pre .6) (s .pre .7) (s .pre .8) (r .residues .result) (r .residues .ensures),
+    )
 
-cast-if1 : tie.Need-cast-if1
-cast-if1 c = omega (arith, ones-le 64 (c .error-set .result) (omega arith))
+points-requires : tie.Need-points-requires
+points-requires c κs =
+    let s = c .before .before .before in
+    let a = s .args in (
+      omega arith,
+      holders-length (a .k) (a .d) (omega arith) (omega arith) (a .p) (shaped s) (a .v) (a .t) (a .e) (a .m) (a .hs .now) (a .ys .now)
+          (omega arith) (s .pre .6) (s .pre .7) (s .pre .8),
+    )
+
+locate-requires : tie.Need-locate-requires
+locate-requires c κs = search needs
+
+gather-requires : tie.Need-gather-requires
+gather-requires c κs = search needs
 
 returns : tie.Need-returns
 returns c =
-    let s = c .before .before in
+    let g = c .before .before in
+    let l = g .before in
+    let x = l .before in
+    let y = x .before in
+    let r = y .before .before in
+    let s = r .before in
     let a = s .args in
-    let w = c .before .error-set in
-    decide-found (a .d) (a .t) (a .e) (map bits (shares s)) (coefs (a .d) (suc (a .t)) (a .p)) (s .pre .6) (enough s)
-    (holders-bits (a .d) (shares s) (s .pre .4)) (w .result) (w .ensures) (c .if1 .taken)
+    decides-few (a .k) (a .d) (omega arith) (omega arith) (a .p) (shaped s) (a .v) (a .t) (a .e) (a .m) (a .hs .now) (a .ys .now)
+    (omega arith) (s .pre .6) (s .pre .7) (s .pre .8) _ (r .residues .ensures) _ (y .slice .ensures) _ (x .points .ensures) _
+    (l .locate .ensures) _ (g .gather .ensures) (c .if1 .taken)
+
+support-requires : tie.Need-support-requires
+support-requires c κs = search needs
+
+holder-set-requires : tie.Need-holder-set-requires
+holder-set-requires c κs =
+    let s = c .before .before .before .before .before .before .before .before .before .before in
+    let a = s .args in (
+      omega arith,
+      numbered (a .k) (a .d) (omega arith) (omega arith) (a .p) (shaped s) (a .v) (a .t) (a .e) (a .m) (a .hs .now) (a .ys .now)
+          (omega arith) (s .pre .6) (s .pre .7) (s .pre .8),
+    )
+
+cast-if2 : tie.Need-cast-if2
+cast-if2 c = omega (arith, ones-le 64 (c .holder-set .result) (omega arith))
 
 returns-2 : tie.Need-returns-2
 returns-2 c =
-    let s = c .before .before in
+    let g = c .before .before .before .before .before .before in
+    let l = g .before in
+    let x = l .before in
+    let y = x .before in
+    let r = y .before .before in
+    let s = r .before in
     let a = s .args in
-    let w = c .before .error-set in
-    decide-none (a .d) (a .t) (a .e) (map bits (shares s)) (coefs (a .d) (suc (a .t)) (a .p)) (s .pre .6) (enough s)
-    (holders-bits (a .d) (shares s) (s .pre .4)) (w .result) (w .ensures) (omega (arith, c .if1 .left))
+    let o = c .before in
+    decides-found (a .k) (a .d) (omega arith) (omega arith) (a .p) (shaped s) (a .v) (a .t) (a .e) (a .m) (a .hs .now) (a .ys .now)
+    (omega arith) (s .pre .6) (s .pre .7) (s .pre .8) _ (r .residues .ensures) _ (y .slice .ensures) _ (x .points .ensures) _
+    (l .locate .ensures) _ (g .gather .ensures) (omega (arith, o .before .before .before .if1 .left)) _
+    (o .before .support .ensures) _ (o .holder-set .ensures) (c .if2 .taken)
+
+returns-3 : tie.Need-returns-3
+returns-3 c =
+    let g = c .before .before .before .before .before .before in
+    let l = g .before in
+    let x = l .before in
+    let y = x .before in
+    let r = y .before .before in
+    let s = r .before in
+    let a = s .args in
+    let o = c .before in
+    decides-none (a .k) (a .d) (omega arith) (omega arith) (a .p) (shaped s) (a .v) (a .t) (a .e) (a .m) (a .hs .now) (a .ys .now)
+    (omega arith) (s .pre .6) (s .pre .7) (s .pre .8) _ (r .residues .ensures) _ (y .slice .ensures) _ (x .points .ensures) _
+    (l .locate .ensures) _ (g .gather .ensures) (omega (arith, o .before .before .before .if1 .left)) _
+    (o .before .support .ensures) _ (o .holder-set .ensures) (omega (arith, c .if2 .left))
 
 pub decide-spec : {M : Type 1} → statement M
-decide-spec = tie.close (tie.spec error-set-requires cast-if1 returns returns-2)
+decide-spec =
+    tie.close
+    (tie.spec
+    residues-requires
+    slice-requires
+    points-requires
+    locate-requires
+    gather-requires
+    returns
+    support-requires
+    holder-set-requires
+    cast-if2
+    returns-2
+    returns-3)

@@ -1,65 +1,69 @@
--- `level::trust` meets its contract. Assumes nothing.
+-- `level::trust` meets its contract, at its three ends. Assumes nothing.
 use native.Mathlib.Omega.{arith}
+use borrow.Author.Tests.{ne-eqb}
 use borrow.Author.Needs.{needs}
-use mathlib.Core.Path.{refl, sym, _∙_}
-use Prim.Native.Nat.{_+_}
-use lib.ListN.{take}
-use Rattle.ring.specs.Element.{held, point}
-use Rattle.polynomial.specs.Polynomial.{value}
-use Rattle.polynomial.specs.Rows.{coefs}
-use Rattle.level.specs.Trusted.{Trusted, trusted}
-use Rattle.level.proofs.Gathered.{trust-late, trust-zero, trust-more}
+use mathlib.Core.Path.{_∙_}
+use Rattle.level.proofs.Turns.{trust-late, trust-out, trust-in, trusted-by}
 use Rattle.level.proofs.trust.Statement.{statement}
 use Rattle.level.proofs.trust.Tie as tie
 
-abbrev at : tie.Start → Trusted
-at s = trusted (s .args .q .now) (s .args .nodal .now) (s .args .n)
-
 returns : tie.Need-returns
 returns c =
-    let a = c .before .args in
-    trust-late (a .d) (omega arith) (omega arith) (a .t) (omega arith) (a .b .now) (a .nb) (a .x) (take (a .d) (a .y))
-    (held (a .d) (value 1 (a .d) (coefs (a .d) (a .nb) (a .b .now)) (point (a .d) (a .x)))) (at (c .before)) refl (c .if1 .taken)
+    let a = c .before .before .args in
+    trust-late (a .d) (a .xs) (a .t) (a .trusted) (a .i) (a .s) (c .if1 .taken)
 
-eval-requires : tie.Need-eval-requires
-eval-requires c κs = search needs
-
-is-zero-requires : tie.Need-is-zero-requires
-is-zero-requires c κs = search needs
+shr-if2 : tie.Need-shr-if2
+shr-if2 c = search needs
 
 returns-2 : tie.Need-returns-2
 returns-2 c =
-    let s = c .before .before .before .before in
-    let a = s .args in
-    let v = c .before .before .eval in
-    trust-zero (a .d) (omega arith) (omega arith) (a .t) (omega arith) (a .b .now) (a .nb) (a .x) (take (a .d) (a .y)) (v .result) (at s) (v .ensures)
-    (omega arith) (sym (c .before .is-zero .ensures) ∙ c .if2 .taken)
+    let a = c .before .before .before .args in
+    trust-out (a .d) (a .xs) (a .t) (a .trusted) (a .i) (a .s) (omega (arith, c .before .if1 .left)) (c .if2 .taken)
 
-extend-requires : tie.Need-extend-requires
-extend-requires c κs = search needs
+spread-requires : tie.Need-spread-requires
+spread-requires c κs = search needs
 
-add-result : tie.Need-add-result
-add-result c = search needs
+plus-requires : tie.Need-plus-requires
+plus-requires c κs = search needs
+
+spread-requires-2 : tie.Need-spread-requires-2
+spread-requires-2 c κs = search needs
+
+spread-requires-3 : tie.Need-spread-requires-3
+spread-requires-3 c κs = search needs
+
+mix-requires : tie.Need-mix-requires
+mix-requires c κs = search needs
+
+times-requires : tie.Need-times-requires
+times-requires c κs = search needs
+
+add-n : tie.Need-add-n
+add-n c = search needs
 
 returns-3 : tie.Need-returns-3
 returns-3 c =
-    let q = c .before .before .before in
-    let s = q .before .before .before .before in
-    let a = s .args in
-    let v = q .before .before .eval in
-    let e = c .extend .ensures in
-    trust-more (a .d) (omega arith) (omega arith) (a .t) (omega arith) (a .b .now) (a .nb) (a .x) (take (a .d) (a .y)) (v .result) (at s) (v .ensures)
-    (omega arith) (sym (q .before .is-zero .ensures) ∙ q .if2 .left)
-    ∙ (λ i. trusted (sym (e .0) i) (sym (e .1) i) (a .n + 1))
+    let m = c .before .before in
+    let e = m .before .before in
+    let w = e .before .before .before in
+    let t = w .before .before in
+    let a = t .before .before .before .args in
+    trusted-by (a .d) (a .xs) (a .i) (a .s) _ _ _ _ _ _ (w .before .spread .ensures) (w .plus .ensures) (e .spread2 .ensures)
+    (m .before .spread3 .ensures) (m .mix .ensures) (c .before .times .ensures)
+    ∙ trust-in (a .d) (a .xs) (a .t) (a .trusted) (a .i) (a .s) (omega (arith, t .before .if1 .left)) (ne-eqb _ 0 (t .if2 .left))
 
 pub trust-spec : {M : Type 1} → statement M
 trust-spec =
     tie.close
     (tie.spec
     returns
-    eval-requires
-    is-zero-requires
+    shr-if2
     returns-2
-    extend-requires
-    add-result
+    spread-requires
+    plus-requires
+    spread-requires-2
+    spread-requires-3
+    mix-requires
+    times-requires
+    add-n
     returns-3)

@@ -1,0 +1,250 @@
+-- What holds before each round of the search: the codeword asked for, with its error set, is that of the shares still in, with the holders
+-- dropped so far added to its error set (`same`). It holds at the start; a round that jumps keeps it and drops at least one share (`jump`); one
+-- that does not ends the search, with the codeword or with none. Assumes nothing.
+use mathlib.Core.Path.{_≡_, refl, sym, _∙_, ap}
+use mathlib.Core.Bool.{Bool, true}
+use mathlib.Core.List.{List, [], _∷_, map}
+use mathlib.Core.Option.{Option, none, some, Option·map, Option·none-ne-some, Option·some-injective}
+use Prim.Native.Nat.{ℕ, zero, suc, _+_, _*_, _-_, _^_, _≤_, _<_}
+use native.Mathlib.Nat.{add-assoc, zero-add, pow-suc, pow-le-pow-right}
+use native.Mathlib.Omega.{arith}
+use lib.Count.{ones, trailingZeros}
+use lib.ListN.{length, take}
+use Rattle.algebra.specs.Shares.{All}
+use Rattle.algebra.proofs.Shares.{all-map}
+use Rattle.polynomial.specs.Rows.{Rows, coefs}
+use Rattle.codewords.specs.Codeword.{Share, Polynomial, differs, errors, errorSet, codeword}
+use Rattle.codewords.specs.Residue.{residue, bitOf, atBit, without}
+use Rattle.codewords.specs.WellFormed.{IsElement, InWidth, Rising, Holders}
+use Rattle.codewords.proofs.Value.{rows-of}
+use Rattle.codewords.proofs.Unique.{codeword-sound, codeword-complete}
+use Rattle.codewords.proofs.ErrorSet.{ones-errors}
+use Rattle.codewords.proofs.Without.{holders-without, rising-without, in-width-without, tally, errorSet-tally, tally-reword, tally-le, tally-without}
+use Rattle.codewords.proofs.Residue.{residue-element}
+use Rattle.codewords.proofs.Jump.{bit-differs-at, ones-at, enough-without, jump-none, jump-with, progress}
+use Rattle.level.specs.Level.{levelOf}
+use Rattle.level.specs.declared.Level.{Level}
+use Rattle.level.specs.declared.Level.the-variants.{Codeword, Nothing}
+use Rattle.decoder.specs.Decoded.{answer, stored}
+use Rattle.decoder.specs.Residues.{Through, bitsOfAll}
+use Rattle.decoder.proofs.Lowest.{Lowest, lowest}
+use Rattle.decoder.proofs.Compared.{no-errors}
+
+-- bit i − 1 for holder i, and the set of all holders
+abbrev holderBit : ℕ → ℕ
+holderBit i = 2 ^ (i - 1)
+
+abbrev any : Share → Bool
+any s = true
+
+abbrev holderSet : List Share → ℕ
+holderSet = tally holderBit any
+
+all-any : (b : Share → Bool) (ss : List Share) → All (λ s. b s ≡ true → true ≡ true) ss
+all-any b [] = tt
+all-any b (s ∷ ss) = (λ e. refl, all-any b ss)
+
+errorSet-le : (k d : ℕ) (p : Polynomial) (ss : List Share) → errorSet k d p ss ≤ holderSet ss
+errorSet-le k d p ss = rw (errorSet-tally k d p ss) (tally-le holderBit (differs k d p) any ss (all-any (differs k d p) ss))
+
+-- it has room among the numbers, if they rise: all of them above a, none above b
+room : (b a : ℕ) (ss : List Share) → Rising ss → All (λ (s : Share). a < s .holder) ss → All (λ (s : Share). s .holder ≤ b) ss → a ≤ b →
+    holderSet ss + 2 ^ a ≤ 2 ^ b
+unfolding tally
+room b a [] u l m h = rw zero-add (pow-le-pow-right (omega arith) h)
+room b a (s ∷ ss) u l m h = omega (arith, below, up (s .holder) (l .0), room b (s .holder) ss (u .1) (u .0) (m .1) (m .0))
+  where
+    up : (x : ℕ) → a < x → 2 ^ x ≡ 2 * 2 ^ (x - 1)
+    up (suc x) q = let e : suc x - 1 ≡ x = omega arith in rw e (pow-suc 2 x ∙ omega arith)
+    up zero q = absurd (omega arith)
+
+    below : 2 ^ a ≤ 2 ^ (s .holder - 1)
+    below = pow-le-pow-right (omega arith) (omega (arith, l .0))
+
+-- a codeword and its error set
+abbrev Outcome : Type 0
+Outcome = Polynomial × ℕ
+
+abbrev outcome : Polynomial → ℕ → Outcome
+outcome p w = (p, w)
+
+-- e₀ errors at most in the shares ss₀; ss are still in, e errors at most; w is the set of the holders dropped
+pub record Sought (k d t e₀ : ℕ) (ss₀ : List Share) (e w : ℕ) (ss : List Share) : Type 0 where
+  pub holders : Holders d ss
+  pub rising : Rising ss
+  pub width : InWidth k d ss
+  pub enough : suc t + 2 * e ≤ length ss
+  pub fits : w + holderSet ss < 2 ^ 63
+  pub same : Option·map (λ p. outcome p (errorSet k d p ss₀)) (codeword k d t e₀ ss₀)
+      ≡ Option·map (λ p. outcome p (w + errorSet k d p ss)) (codeword k d t e ss)
+
+-- after a round that drops the shares of the holders in u
+pub record Jumped (k d t e₀ : ℕ) (ss₀ : List Share) (e w : ℕ) (ss : List Share) (u : ℕ) : Type 0 where
+  pub within : ones u ≤ e
+  pub fits : w + u < 2 ^ 63
+  pub drops : 0 < ones u
+  pub next : Sought k d t e₀ ss₀ (e - ones u) (w + u) (without u ss)
+
+-- what a level gave
+level-some : (d : ℕ) (bs : List Share) (o : Option Polynomial) (got : Level) (w : ℕ) → got ≡ levelOf d bs o → got ≡ Codeword w →
+    (g : Polynomial) × (o ≡ some g) × (w ≡ errorSet 1 d g bs)
+unfolding levelOf
+level-some d bs none got w l e = absurd (distinct (sym e ∙ l))
+  where
+    is : Level → Type 0
+    is (Codeword v) = Unit {0}
+    is Nothing = ⊥
+
+    distinct : Codeword w ≡ Nothing → ⊥
+    distinct x = mathlib.Core.Path.subst is x tt
+level-some d bs (some g) got w l e = (g, refl, ap set (sym e ∙ l))
+  where
+    set : Level → ℕ
+    set (Codeword v) = v
+    set Nothing = 0
+
+level-none : (d : ℕ) (bs : List Share) (o : Option Polynomial) (got : Level) → got ≡ levelOf d bs o → got ≡ Nothing → o ≡ none
+unfolding levelOf
+level-none d bs none got l e = refl
+level-none d bs (some g) got l e = absurd (distinct (sym e ∙ l))
+  where
+    is : Level → Type 0
+    is (Codeword v) = ⊥
+    is Nothing = Unit {0}
+
+    distinct : Nothing ≡ Codeword (errorSet 1 d g bs) → ⊥
+    distinct x = mathlib.Core.Path.subst is x tt
+
+module _ (d : ℕ) (dl : 2 ≤ d) (dh : d ≤ 6) (k t e₀ : ℕ) (ss₀ : List Share) where
+  pub start : Holders d ss₀ → Rising ss₀ → InWidth k d ss₀ → suc t + 2 * e₀ ≤ length ss₀ → Sought k d t e₀ ss₀ e₀ 0 ss₀
+  start a u w m =
+      let few : 2 ^ d ≤ 2 ^ 6 = pow-le-pow-right (omega arith) dh in
+      let r = room 63 0 ss₀ u (all-map (λ s x. x .0) ss₀ (a .0)) (all-map (λ s x. omega (arith, x .1, few)) ss₀ (a .0)) (omega arith) in
+      record {
+        holders = a;
+        rising = u;
+        width = w;
+        enough = m;
+        fits = omega (arith, r);
+        same = ap (λ (f : Polynomial → Outcome). Option·map f (codeword k d t e₀ ss₀)) (λ i p. outcome p (sym (zero-add (errorSet k d p ss₀)) i));
+      }
+
+  module _ (e w : ℕ) (ss : List Share) (r : Sought k d t e₀ ss₀ e w ss) where
+    -- the two ends
+    found-some : (p : Polynomial) → codeword k d t e ss ≡ some p → (codeword k d t e₀ ss₀ ≡ some p) × (errorSet k d p ss₀ ≡ w + errorSet k d p ss)
+    found-some p x =
+        go (codeword k d t e₀ ss₀) (r .same ∙ ap (Option·map (λ q. outcome q (w + errorSet k d q ss))) x)
+      where
+        go : (o : Option Polynomial) → Option·map (λ q. outcome q (errorSet k d q ss₀)) o ≡ some (outcome p (w + errorSet k d p ss)) →
+            (o ≡ some p) × (errorSet k d p ss₀ ≡ w + errorSet k d p ss)
+        go none y = absurd (Option·none-ne-some (outcome p (w + errorSet k d p ss)) y)
+        go (some q) y =
+            let z = Option·some-injective (outcome q (errorSet k d q ss₀)) (outcome p (w + errorSet k d p ss)) y in
+            let s : q ≡ p = ap (λ (u : Outcome). u .0) z in
+            (ap some s, ap (λ u. errorSet k d u ss₀) (sym s) ∙ ap (λ (u : Outcome). u .1) z)
+
+    found-none : codeword k d t e ss ≡ none → codeword k d t e₀ ss₀ ≡ none
+    found-none x = go (codeword k d t e₀ ss₀) (r .same ∙ ap (Option·map (λ q. outcome q (w + errorSet k d q ss))) x)
+      where
+        go : (o : Option Polynomial) → Option·map (λ q. outcome q (errorSet k d q ss₀)) o ≡ none → o ≡ none
+        go none y = refl
+        go (some q) y = absurd (Option·none-ne-some (outcome q (errorSet k d q ss₀)) (sym y))
+
+    -- the number of shares that differ
+    ones-of : (p : Polynomial) → ones (errorSet k d p ss) ≡ errors k d p ss
+    ones-of p = ones-errors k d p ss (all-map (λ s x. x .0) ss (r .holders .0)) (r .holders .1)
+
+    pub sum-fits : (p : Polynomial) → w + errorSet k d p ss < 2 ^ 63
+    sum-fits p = omega (arith, r .fits, errorSet-le k d p ss)
+
+    module _ (q : Rows) (th : Through k d t (take (suc t) ss) q) where
+      abbrev P : Polynomial
+      P = coefs d (suc t) q
+
+      -- few enough differ
+      pub ends : (set : ℕ) → set ≡ errorSet k d P ss → ones set ≤ e → (old : Rows) →
+          (Codeword (w + set) ≡ answer k d ss₀ (codeword k d t e₀ ss₀)) × (q ≡ stored d (codeword k d t e₀ ss₀) old)
+      unfolding answer stored
+      ends set es h old =
+          let c = codeword-complete d dl dh k t e ss P (r .holders) (r .enough) (th .0) (rw (es, ones-of P) at h) in
+          let f = found-some P c in
+          rw (f .0) (ap Codeword (ap (λ n. w + n) es ∙ sym (f .1)), th .1)
+
+      -- too many differ
+      module _ (kh : k ≤ 64) (set : ℕ) (es : set ≡ errorSet k d P ss) (h : e < ones set) (bits : ℕ) (eb : bits ≡ bitsOfAll k d P ss) where
+        residues : All (λ s. IsElement k d (residue k d P s)) ss
+        residues = all-map (λ s x. residue-element d dl dh k P (rows-of k d t P (th .0)) s (x .0)) ss (r .width)
+
+        some-bits : 0 < bitsOfAll k d P ss
+        some-bits = go (bitsOfAll k d P ss) refl
+          where
+            go : (n : ℕ) → bitsOfAll k d P ss ≡ n → 0 < n
+            go zero z =
+                absurd (omega (arith, h, ap ones es, ones-of P, no-errors d dl dh k t P (th .0) ss (r .width) z))
+            go (suc n) z = omega arith
+
+        pub at : Lowest k d P ss (trailingZeros 64 bits)
+        at = rw eb (lowest k d P ss residues kh some-bits)
+
+        abbrev v : ℕ
+        v = trailingZeros 64 bits
+
+        abbrev W : List Share
+        W = map (atBit k d P v) ss
+
+        -- a level's codeword: the shares that differ from it are dropped
+        module _ (u : ℕ) (g : Polynomial) (x : codeword 1 d t e W ≡ some g) (eu : u ≡ errorSet 1 d g W) where
+          ones-u : ones u ≡ errors 1 d g W
+          ones-u = ap ones eu ∙ ones-at d k P v ss (r .holders) g
+
+          within : errors 1 d g W ≤ e
+          within = codeword-sound 1 d t e W g x .1
+
+          parts : holderSet ss ≡ u + holderSet (without u ss)
+          parts =
+              let z = errorSet 1 d g W in
+              let f : z ≡ tally holderBit (λ s. differs 1 d g (atBit k d P v s)) ss =
+              errorSet-tally 1 d g W ∙ tally-reword holderBit (λ s. bitOf v (residue k d P s)) (differs 1 d g) ss in
+              rw eu
+              (tally-without holderBit (λ s. differs 1 d g (atBit k d P v s)) any z ss (bit-differs-at d k P v ss (r .holders) g)
+              (all-any (λ s. differs 1 d g (atBit k d P v s)) ss)
+              ∙ ap (λ n. n + holderSet (without z ss)) (sym f))
+
+          dropped : 0 < ones u
+          dropped = go (ones u) refl
+            where
+              go : (n : ℕ) → ones u ≡ n → 0 < n
+              go zero y =
+                  absurd (at .set (progress d dl dh k t e ss P v (r .holders) (r .width) (r .enough) (th .0) (th .2) g x (sym ones-u ∙ y)))
+              go (suc n) y = omega arith
+
+          after : Sought k d t e₀ ss₀ (e - ones u) (w + u) (without u ss)
+          after =
+              record {
+                holders = holders-without u d ss (r .holders);
+                rising = rising-without u ss (r .rising);
+                width = in-width-without u k d ss (r .width);
+                enough = rw (ones-u, eu) (enough-without d k P v ss (r .holders) g t e (r .enough) within);
+                fits = omega (arith, r .fits, parts);
+                same =
+                    r .same
+                    ∙ rw (ones-u, eu)
+                    (jump-with d dl dh k t e ss P v (r .holders) (r .width) (r .enough) (th .0) (at .room) (at .agree) g x (λ p n. outcome p (w + n))
+                    ∙ ap (λ (f : Polynomial → Outcome). Option·map f (codeword k d t (e - errors 1 d g W) (without (errorSet 1 d g W) ss)))
+                    (λ i p. outcome p (sym (add-assoc w (errorSet 1 d g W) (errorSet k d p (without (errorSet 1 d g W) ss))) i)));
+              }
+
+          jumped : Jumped k d t e₀ ss₀ e w ss u
+          jumped = record { within = rw ones-u within; fits = omega (arith, r .fits, parts); drops = dropped; next = after }
+
+        -- what the level gave
+        module _ (got : Level) (eg : got ≡ levelOf d W (codeword 1 d t e W)) where
+          pub nothing : got ≡ Nothing → (old : Rows) →
+              (Nothing ≡ answer k d ss₀ (codeword k d t e₀ ss₀)) × (old ≡ stored d (codeword k d t e₀ ss₀) old)
+          unfolding answer stored
+          nothing x old =
+              let y = level-none d W (codeword 1 d t e W) got eg x in
+              rw (found-none (jump-none d dl dh k t e ss P v (r .holders) (r .width) (r .enough) (th .0) (at .room) (at .agree) y)) (refl, refl)
+
+          pub jump : (u : ℕ) → got ≡ Codeword u → Jumped k d t e₀ ss₀ e w ss u
+          jump u x = let y = level-some d W (codeword 1 d t e W) got u eg x in jumped u (y .0) (y .1) (y .2)

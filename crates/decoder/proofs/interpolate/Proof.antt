@@ -1,0 +1,103 @@
+-- `decoder::interpolate` meets its contract: after each turn the rows go through the shares passed. Assumes nothing.
+use borrow.Author.Needs.{needs}
+use native.Mathlib.Omega.{arith}
+use Prim.Native.Nat.{suc, _+_, _-_, _≤_}
+use Rattle.algebra.proofs.Shares.{all-map}
+use Rattle.level.specs.Shares.{sharesFrom, sharesOf}
+use Rattle.decoder.proofs.Interpolated.{Interpolated, interpolate-start, interpolate-turn, interpolate-shaped, interpolate-end}
+use Rattle.decoder.proofs.interpolate.Statement.{statement}
+use Rattle.decoder.proofs.interpolate.Tie as tie
+
+abbrev Inv-loop : tie.InvT-loop
+Inv-loop k d low t hs ys q₀ nodal₀ i₀ q nodal i =
+    (i ≤ t + 1) × ((h : 1 ≤ k) (dl : 2 ≤ d) (dh : d ≤ 6) → Interpolated k d h dl dh (sharesFrom d hs ys i (suc t - i)) q nodal)
+
+abbrev μ-loop : tie.MeasureT-loop
+μ-loop k d low t hs ys q₀ nodal₀ i₀ q nodal i = i
+
+array-set-from-nodal : tie.Need-array-set-from-nodal Inv-loop μ-loop
+array-set-from-nodal c = search needs
+
+add-i : tie.Need-add-i Inv-loop μ-loop
+add-i c = search needs
+
+loop-holds : tie.Need-loop-holds Inv-loop μ-loop
+loop-holds c =
+    let a = c .args in
+    (omega arith, λ h dl dh. interpolate-start (a .k) (a .d) h dl dh (a .t) (omega arith) (a .hs .now) (a .ys .now))
+
+sub-i : tie.Need-sub-i Inv-loop μ-loop
+sub-i c = search needs
+
+sub-extend : tie.Need-sub-extend Inv-loop μ-loop
+sub-extend c = search needs
+
+mul-extend : tie.Need-mul-extend Inv-loop μ-loop
+mul-extend c = search needs
+
+element-copy-out-extend : tie.Need-element-copy-out-extend Inv-loop μ-loop
+element-copy-out-extend c = search needs
+
+mul-extend-2 : tie.Need-mul-extend-2 Inv-loop μ-loop
+mul-extend-2 c = search needs
+
+element-copy-out-extend-2 : tie.Need-element-copy-out-extend-2 Inv-loop μ-loop
+element-copy-out-extend-2 c = search needs
+
+extend-requires : tie.Need-extend-requires Inv-loop μ-loop
+extend-requires c κs =
+    let l = c .before .before .before .before .before in
+    let s = l .before in
+    let a = s .args in
+    let p = s .pre in
+    let f =
+    interpolate-shaped (a .k) (a .d) (p .0 .0) (p .1 .0) (p .1 .1) (a .t) (p .3) (a .hs .now) (a .ys .now)
+    (sharesFrom (a .d) (a .hs .now) (a .ys .now) (l .loop .i) (suc (a .t) - l .loop .i)) (l .loop .q) (l .loop .nodal)
+    (l .loop .inv .1 (p .0 .0) (p .1 .0) (p .1 .1)) in
+    (p .0, p .1, p .2, omega arith, f .0, f .1)
+
+loop-less : tie.Need-loop-less Inv-loop μ-loop
+loop-less c = search needs
+
+loop-again : tie.Need-loop-again Inv-loop μ-loop
+loop-again c =
+    let l = c .before .before .before .before .before .before in
+    let s = l .before in
+    let a = s .args in
+    let e = c .extend .ensures in (
+      omega arith,
+      λ h dl dh.
+          rw (e .0, e .1)
+          (interpolate-turn (a .k) (a .d) h dl dh (a .t) (omega arith) (a .hs .now) (a .ys .now)
+          (all-map (λ x w. w .0) (sharesOf (a .d) (suc (a .t)) (a .hs .now) (a .ys .now)) (s .pre .5)) (l .loop .i) (omega arith)
+          (l .loop .inv .0) (l .loop .q) (l .loop .nodal) (l .loop .inv .1 h dl dh)),
+    )
+
+returns : tie.Need-returns Inv-loop μ-loop
+returns c =
+    let l = c .before in
+    let s = l .before in
+    let a = s .args in
+    let p = s .pre in
+    interpolate-end (a .k) (a .d) (p .0 .0) (p .1 .0) (p .1 .1) (a .t) (p .3) (a .hs .now) (a .ys .now) (p .4) (p .5) (l .loop .i)
+    (omega arith) (l .loop .q) (l .loop .nodal) (l .loop .inv .1 (p .0 .0) (p .1 .0) (p .1 .1))
+
+pub interpolate-spec : {M : Type 1} → statement M
+interpolate-spec =
+    tie.close
+    (tie.spec
+    Inv-loop
+    μ-loop
+    array-set-from-nodal
+    add-i
+    loop-holds
+    sub-i
+    sub-extend
+    mul-extend
+    element-copy-out-extend
+    mul-extend-2
+    element-copy-out-extend-2
+    extend-requires
+    loop-less
+    loop-again
+    returns)

@@ -1,0 +1,87 @@
+-- `level::residues` meets its contract: after each turn one row more is written. Assumes nothing.
+use native.Mathlib.Omega.{arith}
+use borrow.Author.Needs.{needs}
+use mathlib.Core.Path.{_≡_}
+use Prim.Native.Nat.{suc, _-_, _≤_}
+use lib.ListN.{length}
+use Rattle.polynomial.specs.Rows.{coefs}
+use Rattle.polynomial.proofs.Shape.{shaped-good}
+use Rattle.level.proofs.Rests.{written, rest-start, rest-turn, rest-end}
+use Rattle.level.proofs.residues.Statement.{statement}
+use Rattle.level.proofs.residues.Tie as tie
+
+abbrev Inv-loop : tie.InvT-loop
+Inv-loop k d low t m hs ys p r₀ i₀ r i = (i ≤ m) × (r ≡ written k d (coefs d (suc t) p) m hs ys i)
+
+abbrev μ-loop : tie.MeasureT-loop
+μ-loop k d low t m hs ys p r₀ i₀ r i = m - i
+
+loop-holds : tie.Need-loop-holds Inv-loop μ-loop
+loop-holds c =
+    let a = c .args in
+    (omega arith, rest-start (a .k) (a .d) (coefs (a .d) (suc (a .t)) (a .t4)) (a .m) (a .hs .now) (a .ys .now))
+
+mul-residue : tie.Need-mul-residue Inv-loop μ-loop
+mul-residue c = search needs
+
+element-copy-out-residue : tie.Need-element-copy-out-residue Inv-loop μ-loop
+element-copy-out-residue c = search needs
+
+mul-residue-2 : tie.Need-mul-residue-2 Inv-loop μ-loop
+mul-residue-2 c = search needs
+
+element-copy-out-residue-2 : tie.Need-element-copy-out-residue-2 Inv-loop μ-loop
+element-copy-out-residue-2 c = search needs
+
+residue-requires : tie.Need-residue-requires Inv-loop μ-loop
+residue-requires c κs =
+    let s = c .before .before .before .before .before in
+    let h : length (s .args .t4) ≡ 64 = omega (arith, s .good) in
+    ((omega arith, omega arith), (omega arith, omega arith), s .pre .2, omega arith, shaped-good (s .args .t4) _ h (s .good .1 .1 .1 .0))
+
+mul-r : tie.Need-mul-r Inv-loop μ-loop
+mul-r c = search needs
+
+array-set-from-r : tie.Need-array-set-from-r Inv-loop μ-loop
+array-set-from-r c = search needs
+
+add-i : tie.Need-add-i Inv-loop μ-loop
+add-i c = search needs
+
+loop-less : tie.Need-loop-less Inv-loop μ-loop
+loop-less c = search needs
+
+loop-again : tie.Need-loop-again Inv-loop μ-loop
+loop-again c =
+    let l = c .before .before .before .before .before in
+    let a = l .before .args in (
+      omega arith,
+      rest-turn (a .k) (a .d) (coefs (a .d) (suc (a .t)) (a .t4)) (a .m) (a .hs .now) (a .ys .now) (omega arith) (l .loop .i) (omega arith)
+          (l .loop .r) (l .loop .inv .1) _ (c .residue .ensures),
+    )
+
+returns : tie.Need-returns Inv-loop μ-loop
+returns c =
+    let l = c .before in
+    let a = l .before .args in
+    rest-end (a .k) (a .d) (coefs (a .d) (suc (a .t)) (a .t4)) (a .m) (a .hs .now) (a .ys .now) (l .loop .i) (omega arith)
+    (l .loop .r) (l .loop .inv .1)
+
+pub residues-spec : {M : Type 1} → statement M
+residues-spec =
+    tie.close
+    (tie.spec
+    Inv-loop
+    μ-loop
+    loop-holds
+    mul-residue
+    element-copy-out-residue
+    mul-residue-2
+    element-copy-out-residue-2
+    residue-requires
+    mul-r
+    array-set-from-r
+    add-i
+    loop-less
+    loop-again
+    returns)

@@ -1,0 +1,4 @@
+pub mod Bits
+pub mod Packed
+pub mod Lanes
+pub mod Turns

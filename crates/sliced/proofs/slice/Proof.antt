@@ -1,0 +1,76 @@
+-- `sliced::slice` meets its contract: a turn of the loop packs one element more. Assumes nothing.
+use borrow.Author.Needs.{needs}
+use native.Mathlib.Omega.{arith}
+use mathlib.Core.Path.{_≡_}
+use mathlib.Core.List.{[], map}
+use Prim.Native.Nat.{_≤_}
+use lib.ListN.{take, drop}
+use Rattle.sliced.specs.Lane.{lane, packed, sliceOf}
+use Rattle.sliced.proofs.Lanes.{lane-bits}
+use Rattle.sliced.proofs.Turns.{packed-start, packed-turn, packed-room}
+use Rattle.sliced.proofs.slice.Statement.{statement}
+use Rattle.sliced.proofs.slice.Tie as tie
+
+abbrev Inv-loop : tie.InvT-loop
+Inv-loop v m ys r₀ i₀ r i = (i ≤ m) × (r ≡ packed (map (λ y. lane 6 y v) (drop i (take m ys))))
+
+abbrev μ-loop : tie.MeasureT-loop
+μ-loop v m ys r₀ i₀ r i = i
+
+loop-holds : tie.Need-loop-holds Inv-loop μ-loop
+loop-holds c = (search needs, packed-start (λ y. lane 6 y (c .args .v)) (c .args .ys .now) (c .args .m))
+
+sub-i : tie.Need-sub-i Inv-loop μ-loop
+sub-i c = search needs
+
+mul-bits-of : tie.Need-mul-bits-of Inv-loop μ-loop
+mul-bits-of c = search needs
+
+element-copy-out-bits-of : tie.Need-element-copy-out-bits-of Inv-loop μ-loop
+element-copy-out-bits-of c = search needs
+
+bits-of-requires : tie.Need-bits-of-requires Inv-loop μ-loop
+bits-of-requires c κs = search needs
+
+prepend-requires : tie.Need-prepend-requires Inv-loop μ-loop
+prepend-requires c κs =
+    let l = c .before .before .before in
+    let a = l .before .args in (
+      rw (c .bits-of .ensures) (lane-bits 6 _ (a .v)),
+      rw (l .loop .inv .1) (packed-room (λ y. lane 6 y (a .v)) (a .ys .now) (a .m) (λ y. lane-bits 6 y (a .v)) (omega arith) (l .loop .i)),
+    )
+
+loop-less : tie.Need-loop-less Inv-loop μ-loop
+loop-less c = search needs
+
+loop-again : tie.Need-loop-again Inv-loop μ-loop
+loop-again c =
+    let l = c .before .before .before .before in
+    let a = l .before .args in (
+      omega arith,
+      rw (c .prepend .ensures, c .before .bits-of .ensures, l .loop .inv .1)
+          (packed-turn (λ y. lane 6 y (a .v)) (a .ys .now) (a .m) [] (l .loop .i) (omega arith) (omega arith) (omega arith)),
+    )
+
+returns : tie.Need-returns Inv-loop μ-loop
+unfolding sliceOf
+returns c =
+    let l = c .before in
+    let e : l .loop .i ≡ 0 = omega arith in
+    rw e at (l .loop .inv .1)
+
+pub slice-spec : {M : Type 1} → statement M
+slice-spec =
+    tie.close
+    (tie.spec
+    Inv-loop
+    μ-loop
+    loop-holds
+    sub-i
+    mul-bits-of
+    element-copy-out-bits-of
+    bits-of-requires
+    prepend-requires
+    loop-less
+    loop-again
+    returns)
