@@ -38,21 +38,6 @@ fn nibble(c: u8) -> u8
     }
 }
 
-// Where the line from a position on ends.
-fn line_end(text: &[u8], from: usize) -> usize
-    requires { ⌜ from ≤ length (now text) ⌝ }
-    ensures { λ r. ⌜ (from ≤ r) × (r ≤ length (now (text .entry))) ⌝ }
-{
-    let mut i = from;
-    while i < text.len() {
-        if text[i] == b'\n' {
-            return i;
-        }
-        i += 1;
-    }
-    i
-}
-
 // A case: its bytes, and how many they are.
 struct Case {
     bytes: [u8; 512],
@@ -218,7 +203,7 @@ fn line(text: &[u8], from: usize, end: usize)
 fn run(text: &[u8]) {
     let mut at: usize = 0;
     while at < text.len() {
-        let end = line_end(text, at);
+        let end = bytes::scan::find(text, at, text.len(), b'\n');
         if at < end {
             line(text, at, end);
         }

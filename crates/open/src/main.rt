@@ -16,7 +16,7 @@ fn print(text: &[u8], n: usize)
 }
 
 fn refused(number: u8) {
-    let mut line = [0u8; text::LINE];
+    let mut line = text::line_buffer();
     let n = text::put_refused(&mut line, 0, number);
     print(&line, n);
 }
@@ -26,7 +26,7 @@ fn list(bytes: &[u8], files: usize)
     requires { ⌜ (bundleFault (now bytes) ≡ 0) × (files ≡ filesOf (now bytes)) ⌝ }
 {
     let h = records::heading_at(bytes, records::ORDER_SIZE);
-    let mut line = [0u8; text::LINE];
+    let mut line = text::line_buffer();
     let n = text::put_head(&mut line, 0);
     print(&line, n);
     let mut place: usize = 0;

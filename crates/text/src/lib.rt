@@ -8,8 +8,12 @@ ghost use Rattle.words.specs.Word.{allInWidth};
 ghost use Rattle.text.specs.Text.{written, decimal, signedText, holdersText, wordsText, readings};
 ghost use Rattle.text.specs.Text.{lineRoom, headLine, refusedLine, openLine, declinedLine};
 
-// Every line fits into so many bytes: the definition's lineRoom.
-pub const LINE: usize = 400;
+// A buffer that every line fits into.
+pub fn line_buffer() -> [u8; 400]
+    ensures { λ r. ⌜ lineRoom ≡ length r ⌝ }
+{
+    [0; 400]
+}
 
 pub fn put_byte(out: &mut [u8], at: usize, b: u8) -> usize
     requires { ⌜ at + 1 ≤ length (now out) ⌝ }

@@ -13,6 +13,7 @@ use Rattle.open.proofs.list.Lts as lts
 use Rattle.listing.proofs.put_line.Reads as put-line-reads
 use Rattle.open.proofs.print.Reads as print-reads
 use Rattle.records.proofs.heading_at.Reads as heading-at-reads
+use Rattle.text.proofs.line_buffer.Reads as line-buffer-reads
 use Rattle.text.proofs.put_head.Reads as put-head-reads
 
 abbrev Inv-loop : tie.InvT-loop
@@ -24,6 +25,10 @@ abbrev μ-loop : tie.MeasureT-loop
 -- src/main.rt:27:9
 heading-at-requires : tie.Need-heading-at-requires Inv-loop μ-loop
 heading-at-requires c κs = bundle-within (now (c .before .args .bytes)) (accepted (now (c .before .args .bytes)) (c .before .pre .0))
+
+-- src/main.rt:29:20
+line-buffer-requires : tie.Need-line-buffer-requires Inv-loop μ-loop
+line-buffer-requires c κs = search needs
 
 -- src/main.rt:29:28
 slice-aggregate-put-head : tie.Need-slice-aggregate-put-head Inv-loop μ-loop
@@ -84,6 +89,7 @@ list-spec =
     Inv-loop
     μ-loop
     heading-at-requires
+    line-buffer-requires
     slice-aggregate-put-head
     put-head-requires
     slice-aggregate-print
