@@ -45,7 +45,7 @@ fn file_at(h: Heading, f: usize) -> usize
 }
 
 // Where job p of file f of a bundle stands, by its first heading.
-fn job_at(h: Heading, f: usize, p: usize) -> usize
+pub fn job_at(h: Heading, f: usize, p: usize) -> usize
     requires { ⌜ (h .params .d ≤ 6) × (h .jobs ≤ 1000) × (f ≤ 63) × (p ≤ 1000) ⌝ }
     ensures { λ r. ⌜ r ≡ orderSize + f * fileSize h + headSize h + p * jobSize h ⌝ }
 {

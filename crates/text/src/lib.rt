@@ -8,11 +8,14 @@ ghost use Rattle.words.specs.Word.{allInWidth};
 ghost use Rattle.text.specs.Text.{written, decimal, signedText, holdersText, wordsText, readings};
 ghost use Rattle.text.specs.Text.{lineRoom, headLine, refusedLine, openLine, declinedLine};
 
-// A buffer that every line fits into.
-pub fn line_buffer() -> [u8; 400]
+// Every line fits into so many bytes.
+pub const LINE: usize = 400;
+
+// A buffer of that many: the definition's lineRoom.
+pub fn line_buffer() -> [u8; LINE]
     ensures { λ r. ⌜ lineRoom ≡ length r ⌝ }
 {
-    [0; 400]
+    [0; LINE]
 }
 
 pub fn put_byte(out: &mut [u8], at: usize, b: u8) -> usize

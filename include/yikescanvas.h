@@ -1,0 +1,121 @@
+/*
+ * Yikescanvas: an archive of jobs in shares. The calls of the static library libboundary.a, which `rt staticlib boundary` builds.
+ *
+ * A book is four numbers: k, the bits of a word, 1 to 64; d, the words of an element, 2 to 6; n, the holders, 1 to 2^d - 1; t, the degree,
+ * 0 to n - 1. A job is one element: d words, each below 2^k. Any t + 1 + 2e shares open a job, whatever up to e of them hold.
+ *
+ * Every call gives 0, or the number that it declines with. A call that declines leaves every output as it was. No call keeps anything,
+ * allocates, or reads or writes but through its arguments; calls from several threads do not meet unless their buffers do.
+ *
+ * A list is a pointer and a length in items. The pointer is to that many items, aligned as their type asks, in fewer than 2^63 bytes, as every
+ * object is; it may be null only where the length is 0. An output overlaps no other argument. That is all a caller owes: a list or an output
+ * of another length than the call needs declines with YIKES_LENGTH before anything is read or written through it.
+ */
+#ifndef YIKESCANVAS_H
+#define YIKESCANVAS_H
+
+#include <stddef.h>
+#include <stdint.h>
+
+#ifdef __cplusplus
+extern "C" {
+#endif
+
+/* Why a call declines. Where several apply, the order is 1, 2, 4, 7, 3, 5, 6 for the calls on lists. A call on a bundle first reads it all, and
+ * its first fault in byte order counts (7, 1, 4, 8); then come 4 for the holder named, 2, 9, 3, 5, 6. */
+enum {
+    YIKES_OK = 0,
+    YIKES_PARAMETERS = 1,     /* k, d, n, t or the number of jobs is out of its range */
+    YIKES_LENGTH = 2,         /* a list or an output has not the length that the call needs */
+    YIKES_WIDE_WORD = 3,      /* a word that the call uses is 2^k or more */
+    YIKES_HOLDER = 4,         /* a holder is not from 1 to n, holders do not strictly rise, or the holder named has no file in the bundle */
+    YIKES_TOO_FEW_SHARES = 5, /* fewer than t + 1 + 2e shares */
+    YIKES_NO_CODEWORD = 6,    /* no polynomial of degree t or less differs from e shares or fewer */
+    YIKES_MALFORMED = 7,      /* bytes that are no bundle, or job numbers that do not strictly rise */
+    YIKES_MISMATCHED = 8,     /* a file does not belong with the first */
+    YIKES_OUT_OF_RANGE = 9    /* a place that is not there, or a run from a to b with a above b, or b above the number of jobs */
+};
+
+/* What every line of yikes_list_line fits into, with its line feed. */
+enum { YIKES_LINE = 400 };
+
+/* The bytes of an order, and of a holder's file with so many jobs. A bundle has the bytes of an order and of its files. */
+enum { YIKES_ORDER_SIZE = 7 };
+#define YIKES_FILE_SIZE(d, jobs) ((size_t)23 + (size_t)(jobs) * ((size_t)14 + (size_t)8 * (size_t)(d)))
+
+/* ---- elements and shares, as words */
+
+/* out = a + b: d words each. The sum of two shares of one holder is its share of the two jobs' sum. Gives 1, 2, 3. */
+uint8_t yikes_add(uint64_t k, size_t d, size_t n, size_t t, const uint64_t *a, size_t a_length, const uint64_t *b, size_t b_length,
+                  uint64_t *out, size_t out_length);
+
+/* out = a times b: d words each. A share times an element is a share of the job times it. Gives 1, 2, 3. */
+uint8_t yikes_scale(uint64_t k, size_t d, size_t n, size_t t, const uint64_t *a, size_t a_length, const uint64_t *b, size_t b_length,
+                    uint64_t *out, size_t out_length);
+
+/* out = the inverse of a, or zero where a is zero modulo 2 and has none: d words each. Gives 1, 2, 3. */
+uint8_t yikes_invert(uint64_t k, size_t d, size_t n, size_t t, const uint64_t *a, size_t a_length, uint64_t *out, size_t out_length);
+
+/* Deals a job of d words with t coefficients of d words each, which must be drawn at random for each job and then forgotten: out has n
+ * shares of d words, holder 1 first. Gives 1, 2, 3. */
+uint8_t yikes_deal(uint64_t k, size_t d, size_t n, size_t t, const uint64_t *job, size_t job_length, const uint64_t *coefficients,
+                   size_t coefficients_length, uint64_t *out, size_t out_length);
+
+/* Opens a job from the shares of some holders, strictly rising, d words for each in turn, of which at most e are wrong. out has d words.
+ * wrong has exactly one word, the set of the holders whose shares are wrong: bit i - 1 for holder i. Gives 1, 2, 4, 3, 5, 6. */
+uint8_t yikes_open(uint64_t k, size_t d, size_t n, size_t t, const uint64_t *holders, size_t holders_length, const uint64_t *shares,
+                   size_t shares_length, uint64_t e, uint64_t *out, size_t out_length, uint64_t *wrong, size_t wrong_length);
+
+/* The signed reading of a word of k bits: out has exactly one word, the value in two's complement, to be read as an int64_t.
+ * Gives 1 (for k), 2, 3. */
+uint8_t yikes_signed(uint64_t k, uint64_t w, uint64_t *out, size_t out_length);
+
+/* ---- files, as bytes */
+
+/* Writes a holder's file: as many jobs as there are numbers, 0 to 1,000, the numbers strictly rising, with d words for each in turn.
+ * out has YIKES_FILE_SIZE(d, numbers_length) bytes. Gives 1, 2, 4, 7, 3. */
+uint8_t yikes_write_file(uint64_t k, size_t d, size_t n, size_t t, size_t holder, uint64_t archive, const uint64_t *numbers,
+                         size_t numbers_length, const uint64_t *words, size_t words_length, uint8_t *out, size_t out_length);
+
+/* Writes an order with the allowance e: out has YIKES_ORDER_SIZE bytes. Gives 2. */
+uint8_t yikes_write_order(uint8_t e, uint8_t *out, size_t out_length);
+
+/* Writes a bundle of an order with the allowance e and files that stand one after another, holders strictly rising: out has
+ * YIKES_ORDER_SIZE bytes more than files. Files that are not accepted decline with the fault of the bundle that would be written; then 2. */
+uint8_t yikes_write_bundle(uint8_t e, const uint8_t *files, size_t files_length, uint8_t *out, size_t out_length);
+
+/* ---- calls on a bundle: its first fault, 7, 1, 4 or 8, comes before anything else */
+
+/* Whether the bundle is accepted. */
+uint8_t yikes_accept(const uint8_t *bundle, size_t bundle_length);
+
+/* Opens the job at a place, 0 first. out has d words; wrong has exactly one word, the set of the holders whose shares are wrong.
+ * Then gives 2, 9, 3, 5, 6. */
+uint8_t yikes_open_place(const uint8_t *bundle, size_t bundle_length, size_t place, uint64_t *out, size_t out_length, uint64_t *wrong,
+                         size_t wrong_length);
+
+/* The total of a holder's file over the places a to b - 1: out has d words. Then gives 4, 2, 9, 3. */
+uint8_t yikes_total(const uint8_t *bundle, size_t bundle_length, size_t holder, size_t a, size_t b, uint64_t *out, size_t out_length);
+
+/* Opens the sum of the jobs at the places a to b - 1, as yikes_open_place does one job. Then gives 2, 9, 3, 5, 6. */
+uint8_t yikes_open_run(const uint8_t *bundle, size_t bundle_length, size_t a, size_t b, uint64_t *out, size_t out_length, uint64_t *wrong,
+                       size_t wrong_length);
+
+/* Where the body of a job record stands in the bundle, by holder and place: part has exactly two words, the offset and the length in bytes,
+ * which is never 0. Then gives 4, 2, 9. */
+uint8_t yikes_fetch_body(const uint8_t *bundle, size_t bundle_length, size_t holder, size_t place, uint64_t *part, size_t part_length);
+
+/* The number of the same fetch alone: 0 where it succeeds. Then gives 4, 9. */
+uint8_t yikes_fetch_fault(const uint8_t *bundle, size_t bundle_length, size_t holder, size_t place);
+
+/* The line of the job at a place, as the program `open` prints it: also of a job that declines with 3, 5 or 6. line has YIKES_LINE bytes or
+ * more, of which the line takes the first ones and the others stay; length has exactly one word, how many bytes the line has, with its line
+ * feed. Then gives 2, 9. */
+uint8_t yikes_list_line(const uint8_t *bundle, size_t bundle_length, size_t place, uint8_t *line, size_t line_length, uint64_t *length,
+                        size_t length_length);
+
+#ifdef __cplusplus
+}
+#endif
+
+#endif

@@ -1,0 +1,262 @@
+//! What is measured: each row has its inputs and one output buffer, and a call that goes through all inputs on one side.
+
+use compare::library;
+use compare::random::Random;
+use plain::{Params, Refusal};
+use std::hint::black_box;
+
+#[derive(Clone, Copy, PartialEq, Eq)]
+pub enum Side {
+    Library,
+    Plain,
+}
+
+impl Side {
+    pub const BOTH: [Side; 2] = [Side::Library, Side::Plain];
+
+    pub fn named(name: &str) -> Option<Side> {
+        match name {
+            "library" => Some(Side::Library),
+            "plain" => Some(Side::Plain),
+            _ => None,
+        }
+    }
+}
+
+type Call = Box<dyn Fn(Side, &mut [u64])>;
+
+/// The inputs of a row inside its call, and the output.
+pub struct Work {
+    pub out: Vec<u64>,
+    pub call: Call,
+}
+
+type Make = fn(&mut Random, Book) -> Work;
+
+/// A row of the table; its inputs are made when it is measured.
+pub struct Row {
+    name: &'static str,
+    book: Book,
+    /// How many calls of the library one run of the work makes.
+    pub items: usize,
+    make: Make,
+}
+
+impl Row {
+    pub fn title(&self) -> String {
+        let Params { k, d, n, t } = self.book.p;
+        format!("{}, k {k} d {d} n {n} t {t} e {}", self.name, self.book.e)
+    }
+
+    pub fn work(&self) -> Work {
+        (self.make)(&mut Random::new(1), self.book)
+    }
+}
+
+/// Parameters and the allowance.
+#[derive(Clone, Copy)]
+struct Book {
+    p: Params,
+    e: usize,
+}
+
+const BOOKS: [Book; 3] = [
+    Book { p: Params { k: 64, d: 4, n: 15, t: 4 }, e: 5 },
+    Book { p: Params { k: 16, d: 4, n: 15, t: 7 }, e: 2 },
+    Book { p: Params { k: 64, d: 6, n: 63, t: 20 }, e: 21 },
+];
+
+/// Different inputs of a row that opens or deals; jobs in a bundle whose places are opened, and in one that is accepted or added up.
+const INPUTS: usize = 16;
+const PLACES: usize = 16;
+const JOBS: usize = 100;
+
+#[derive(Clone, Copy)]
+enum Damage {
+    AnyBits,
+    TopBit,
+}
+
+fn number(answer: Result<(), Refusal>) -> u8 {
+    answer.map_or_else(|refusal| refusal as u8, |()| 0)
+}
+
+const ROWS: [(&str, usize, Make); 10] = [
+    ("deal", INPUTS, dealing),
+    ("open, none wrong", INPUTS, |random, book| opening(random, book, None)),
+    ("open, e wrong in any bits", INPUTS, |random, book| opening(random, book, Some(Damage::AnyBits))),
+    ("open, e wrong in the top bit", INPUTS, |random, book| opening(random, book, Some(Damage::TopBit))),
+    ("open all places, same holders wrong", PLACES, |random, book| places(random, book, true)),
+    ("open all places, different holders wrong", PLACES, |random, book| places(random, book, false)),
+    ("accept", 1, accepting),
+    ("accept, beside the sum of the bytes", 1, accepting_beside_checksum),
+    ("total of one file", 1, total),
+    ("open a run", 1, run),
+];
+
+pub fn all() -> Vec<Row> {
+    let of_book = |book| ROWS.into_iter().map(move |(name, items, make)| Row { name, book, items, make });
+    BOOKS.into_iter().flat_map(of_book).collect()
+}
+
+fn dealing(random: &mut Random, book: Book) -> Work {
+    let p = book.p;
+    let inputs: Vec<[Vec<u64>; 2]> = (0..INPUTS).map(|_| [random.words(p.k, p.d), random.words(p.k, p.d * p.t)]).collect();
+    let call: Call = Box::new(move |side, out| {
+        for ([job, coefficients], shares) in inputs.iter().zip(out.chunks_mut(p.n * p.d)) {
+            match side {
+                Side::Library => library::deal(p, job, coefficients, shares),
+                Side::Plain => number(plain::deal(p, job, coefficients, shares)),
+            };
+        }
+    });
+    Work { out: vec![0; INPUTS * p.n * p.d], call }
+}
+
+fn deal(random: &mut Random, p: Params) -> Vec<u64> {
+    let mut shares = vec![0; p.n * p.d];
+    second::deal(p, &random.words(p.k, p.d), &random.words(p.k, p.d * p.t), &mut shares).expect("good inputs");
+    shares
+}
+
+/// As many different holders as the allowance, counted from 0.
+fn holders(random: &mut Random, book: Book) -> Vec<usize> {
+    let mut holders: Vec<usize> = (0..book.p.n).collect();
+    for i in 0..book.e {
+        let other = random.from_to(i, book.p.n - 1);
+        holders.swap(i, other);
+    }
+    holders.truncate(book.e);
+    holders
+}
+
+fn damage(random: &mut Random, book: Book, wrong: &[usize], damage: Damage, shares: &mut [u64]) {
+    let Params { k, d, .. } = book.p;
+    for holder in wrong {
+        let share = &mut shares[holder * d..(holder + 1) * d];
+        match damage {
+            Damage::AnyBits => share.copy_from_slice(&random.words(k, d)),
+            Damage::TopBit => share[random.below(d)] ^= 1 << (k - 1),
+        }
+    }
+}
+
+/// The answer, the set and the words of an opening stand one after another.
+fn parts(result: &mut [u64]) -> (&mut u64, &mut [u64], &mut [u64]) {
+    let (answer, rest) = result.split_first_mut().expect("an answer");
+    let (wrong, words) = rest.split_at_mut(1);
+    (answer, wrong, words)
+}
+
+fn opening(random: &mut Random, book: Book, kind: Option<Damage>) -> Work {
+    let Book { p, e } = book;
+    let present: Vec<u64> = (1..=p.n as u64).collect();
+    let mut inputs = vec![];
+    for _ in 0..INPUTS {
+        let mut shares = deal(random, p);
+        if let Some(kind) = kind {
+            let wrong = holders(random, book);
+            damage(random, book, &wrong, kind, &mut shares);
+        }
+        inputs.push(shares);
+    }
+    let call: Call = Box::new(move |side, out| {
+        for (shares, result) in inputs.iter().zip(out.chunks_mut(p.d + 2)) {
+            let (answer, wrong, words) = parts(result);
+            *answer = u64::from(match side {
+                Side::Library => library::open(p, &present, shares, e as u64, words, wrong),
+                Side::Plain => number(plain::open(p, &present, shares, e as u64, words, wrong)),
+            });
+        }
+    });
+    Work { out: vec![0; INPUTS * (p.d + 2)], call }
+}
+
+/// A bundle of all holders' files, e of them wrong in each job: the same ones, or different ones.
+fn bundle(random: &mut Random, book: Book, jobs: usize, same: bool) -> Vec<u8> {
+    let Book { p, e } = book;
+    let mut files = vec![vec![]; p.n];
+    let mut wrong = holders(random, book);
+    for _ in 0..jobs {
+        if !same {
+            wrong = holders(random, book);
+        }
+        let mut shares = deal(random, p);
+        damage(random, book, &wrong, Damage::AnyBits, &mut shares);
+        files.iter_mut().zip(shares.chunks(p.d)).for_each(|(file, share)| file.extend(share));
+    }
+    let numbers: Vec<u64> = (0..jobs as u64).collect();
+    let size = 23 + jobs * (14 + 8 * p.d);
+    let mut bytes = vec![0; 7 + p.n * size];
+    let (order, rest) = bytes.split_at_mut(7);
+    second::write_order(e as u8, order).expect("seven bytes");
+    for (i, (words, file)) in files.iter().zip(rest.chunks_mut(size)).enumerate() {
+        second::write_file(p, i + 1, 7, &numbers, words, file).expect("good inputs");
+    }
+    bytes
+}
+
+fn places(random: &mut Random, book: Book, same: bool) -> Work {
+    let d = book.p.d;
+    let bytes = bundle(random, book, PLACES, same);
+    let call: Call = Box::new(move |side, out| {
+        for (place, result) in out.chunks_mut(d + 2).enumerate() {
+            let (answer, wrong, words) = parts(result);
+            *answer = u64::from(match side {
+                Side::Library => library::open_place(&bytes, place, words, wrong),
+                Side::Plain => number(plain::open_place(&bytes, place, words, wrong)),
+            });
+        }
+    });
+    Work { out: vec![0; PLACES * (d + 2)], call }
+}
+
+fn accepting(random: &mut Random, book: Book) -> Work {
+    let bytes = bundle(random, book, JOBS, true);
+    let call: Call = Box::new(move |side, out| {
+        out[0] = u64::from(match side {
+            Side::Library => library::accept(&bytes),
+            Side::Plain => number(plain::accept(&bytes)),
+        });
+    });
+    Work { out: vec![0], call }
+}
+
+/// The column of plain Rust is the sum of all bytes here.
+fn accepting_beside_checksum(random: &mut Random, book: Book) -> Work {
+    let bytes = bundle(random, book, JOBS, true);
+    let call: Call = Box::new(move |side, out| {
+        out[0] = u64::from(match side {
+            Side::Library => library::accept(&bytes),
+            Side::Plain => {
+                black_box(black_box(&bytes).iter().fold(0u64, |sum, b| sum.wrapping_add(u64::from(*b))));
+                0
+            }
+        });
+    });
+    Work { out: vec![0], call }
+}
+
+fn total(random: &mut Random, book: Book) -> Work {
+    let Params { d, n, .. } = book.p;
+    let bytes = bundle(random, book, JOBS, true);
+    let call: Call = Box::new(move |side, out| {
+        match side {
+            Side::Library => library::total(&bytes, n, 0, JOBS, out),
+            Side::Plain => number(plain::total(&bytes, n, 0, JOBS, out)),
+        };
+    });
+    Work { out: vec![0; d], call }
+}
+
+fn run(random: &mut Random, book: Book) -> Work {
+    let bytes = bundle(random, book, JOBS, true);
+    let call: Call = Box::new(move |side, out| {
+        let (answer, wrong, words) = parts(out);
+        *answer = u64::from(match side {
+            Side::Library => library::open_run(&bytes, 0, JOBS, words, wrong),
+            Side::Plain => number(plain::open_run(&bytes, 0, JOBS, words, wrong)),
+        });
+    });
+    Work { out: vec![0; book.p.d + 2], call }
+}

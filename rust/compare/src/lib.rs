@@ -1,0 +1,8 @@
+//! Random cases for the library and the second implementation, with the same inputs and the same buffers. Whatever a call leaves is
+//! compared: its answer, and every buffer at exit.
+
+pub mod bundles;
+pub mod library;
+pub mod openings;
+pub mod outcome;
+pub mod random;

@@ -1,0 +1,118 @@
+//! `plain` beside `second`, on dealt and damaged shares and on the bundles made of them.
+
+use plain::Params;
+
+/// xorshift64
+struct Random(u64);
+
+impl Random {
+    fn word(&mut self) -> u64 {
+        self.0 ^= self.0 << 13;
+        self.0 ^= self.0 >> 7;
+        self.0 ^= self.0 << 17;
+        self.0
+    }
+
+    fn below(&mut self, bound: usize) -> usize {
+        (self.word() >> 11) as usize % bound
+    }
+
+    fn words(&mut self, k: u64, count: usize) -> Vec<u64> {
+        (0..count).map(|_| self.word() >> (64 - k)).collect()
+    }
+
+    fn params(&mut self) -> Params {
+        let (k, d) = (1 + self.below(64) as u64, 2 + self.below(5));
+        let n = 1 + self.below((1 << d) - 1);
+        Params { k, d, n, t: self.below(n) }
+    }
+
+    /// Dealt shares, about w of them changed from a random bit on.
+    fn shares(&mut self, p: Params, w: usize) -> Vec<u64> {
+        let (job, coefficients) = (self.words(p.k, p.d), self.words(p.k, p.d * p.t));
+        let (mut shares, mut same) = (vec![0; p.n * p.d], vec![0; p.n * p.d]);
+        second::deal(p, &job, &coefficients, &mut shares).unwrap();
+        plain::deal(p, &job, &coefficients, &mut same).unwrap();
+        assert_eq!(shares, same);
+        let from = self.below(p.k as usize);
+        for _ in 0..w {
+            let holder = self.below(p.n);
+            let change = self.words(p.k, p.d);
+            for (word, change) in shares[holder * p.d..].iter_mut().zip(change) {
+                *word ^= change >> from << from;
+            }
+        }
+        shares
+    }
+}
+
+#[test]
+fn openings() {
+    let mut random = Random(1);
+    for _ in 0..2000 {
+        let p = random.params();
+        let e = (p.n - p.t - 1) / 2;
+        let w = random.below(e + 2);
+        let shares = random.shares(p, w);
+        let holders: Vec<u64> = (1..=p.n as u64).collect();
+        let (mut words, mut wrong) = ([vec![7; p.d], vec![7; p.d]], [[7], [7]]);
+        let first = plain::open(p, &holders, &shares, e as u64, &mut words[0], &mut wrong[0]);
+        let other = second::open(p, &holders, &shares, e as u64, &mut words[1], &mut wrong[1]);
+        assert_eq!((first, &words[0], wrong[0]), (other, &words[1], wrong[1]), "{p:?} {shares:?}");
+    }
+}
+
+/// A bundle of all holders' files with three jobs, or with a random byte changed, or cut.
+fn bundle(random: &mut Random) -> (Params, Vec<u8>) {
+    let p = random.params();
+    let e = (p.n - p.t - 1) / 2;
+    let jobs: Vec<Vec<u64>> = (0..3).map(|_| random.shares(p, e)).collect();
+    let mut bytes = vec![0; 7];
+    second::write_order(e as u8, &mut bytes).unwrap();
+    for holder in 0..p.n {
+        let words: Vec<u64> = jobs.iter().flat_map(|job| job[holder * p.d..(holder + 1) * p.d].to_vec()).collect();
+        let mut file = vec![0; 23 + 3 * (14 + 8 * p.d)];
+        second::write_file(p, holder + 1, 9, &[1, 2, 5], &words, &mut file).unwrap();
+        bytes.extend(file);
+    }
+    match random.below(4) {
+        0 => bytes.truncate(random.below(bytes.len())),
+        1 => {
+            let at = random.below(bytes.len().min(60));
+            bytes[at] = random.word() as u8;
+        }
+        _ => {}
+    }
+    (p, bytes)
+}
+
+#[test]
+fn bundles() {
+    let mut random = Random(2);
+    for _ in 0..1000 {
+        let (p, bytes) = bundle(&mut random);
+        assert_eq!(plain::accept(&bytes), second::accept(&bytes), "{bytes:?}");
+        let (place, b, holder) = (random.below(4), random.below(4), random.below(p.n + 1));
+        let mut results = [vec![7; 3 * p.d + 2], vec![7; 3 * p.d + 2]];
+        let answers = [0, 1].map(|side| {
+            let (out, wrong) = results[side].split_at_mut(3 * p.d);
+            let (place_words, rest) = out.split_at_mut(p.d);
+            let (run_words, total_words) = rest.split_at_mut(p.d);
+            let (place_wrong, run_wrong) = wrong.split_at_mut(1);
+            if side == 0 {
+                (
+                    plain::open_place(&bytes, place, place_words, place_wrong),
+                    plain::open_run(&bytes, place, b, run_words, run_wrong),
+                    plain::total(&bytes, holder, place, b, total_words),
+                )
+            } else {
+                (
+                    second::open_place(&bytes, place, place_words, place_wrong),
+                    second::open_run(&bytes, place, b, run_words, run_wrong),
+                    second::total(&bytes, holder, place, b, total_words),
+                )
+            }
+        });
+        assert_eq!((answers[0], &results[0]), (answers[1], &results[1]), "{bytes:?}");
+    }
+}

@@ -1,0 +1,90 @@
+//! Calls on a bundle. It is read whole first; then come 4 for a named holder, 2, 9, 3, 5, 6.
+
+use crate::decode::Opened;
+use crate::files::{read_bundle, Bundle, File};
+use crate::ring::{Element, ZERO};
+use crate::sharing::{open_shares, share, Share};
+use crate::{demand, Params, Refusal};
+use std::ops::Range;
+
+impl Bundle {
+    pub fn params(&self) -> Params {
+        self.files[0].heading.params
+    }
+
+    fn place(&self, place: usize) -> Result<(), Refusal> {
+        demand(place < self.files[0].jobs.len(), Refusal::OutOfRange)
+    }
+
+    fn run(&self, a: usize, b: usize) -> Result<(), Refusal> {
+        demand(a <= b && b <= self.files[0].jobs.len(), Refusal::OutOfRange)
+    }
+
+    fn file(&self, holder: usize) -> Result<&File, Refusal> {
+        self.files.iter().find(|f| f.heading.holder == holder).ok_or(Refusal::Holder)
+    }
+
+    /// The job at a place that the bundle has.
+    pub(crate) fn open(&self, place: usize) -> Result<Opened, Refusal> {
+        let shares: Vec<Share> = self.files.iter().map(|f| share(f.heading.holder, &f.jobs[place].words)).collect();
+        open_shares(self.params(), self.e.into(), &shares)
+    }
+
+    /// The sum of a file's shares over a run that the bundle has.
+    fn sum(&self, file: &File, run: Range<usize>) -> Result<Element, Refusal> {
+        let ring = self.params().ring();
+        demand(file.jobs[run.clone()].iter().all(|job| ring.in_width(&job.words)), Refusal::WideWord)?;
+        Ok(file.jobs[run].iter().fold(ZERO, |sum, job| ring.add(&sum, &ring.element(&job.words))))
+    }
+
+    fn lengths(&self, out: &[u64], wrong: &[u64]) -> Result<(), Refusal> {
+        demand(out.len() == self.params().d && wrong.len() == 1, Refusal::Length)
+    }
+}
+
+fn put(opened: &Opened, out: &mut [u64], wrong: &mut [u64]) {
+    out.copy_from_slice(&opened.words[..out.len()]);
+    wrong[0] = opened.wrong;
+}
+
+pub fn open_place(bytes: &[u8], place: usize, out: &mut [u64], wrong: &mut [u64]) -> Result<(), Refusal> {
+    let bundle = read_bundle(bytes)?;
+    bundle.lengths(out, wrong)?;
+    bundle.place(place)?;
+    put(&bundle.open(place)?, out, wrong);
+    Ok(())
+}
+
+pub fn total(bytes: &[u8], holder: usize, a: usize, b: usize, out: &mut [u64]) -> Result<(), Refusal> {
+    let bundle = read_bundle(bytes)?;
+    let file = bundle.file(holder)?;
+    demand(out.len() == bundle.params().d, Refusal::Length)?;
+    bundle.run(a, b)?;
+    out.copy_from_slice(&bundle.sum(file, a..b)?[..out.len()]);
+    Ok(())
+}
+
+pub fn open_run(bytes: &[u8], a: usize, b: usize, out: &mut [u64], wrong: &mut [u64]) -> Result<(), Refusal> {
+    let bundle = read_bundle(bytes)?;
+    bundle.lengths(out, wrong)?;
+    bundle.run(a, b)?;
+    let sums: Result<Vec<Share>, Refusal> =
+        bundle.files.iter().map(|f| Ok(Share { holder: f.heading.holder, words: bundle.sum(f, a..b)? })).collect();
+    put(&open_shares(bundle.params(), bundle.e.into(), &sums?)?, out, wrong);
+    Ok(())
+}
+
+/// Offset and length of the body of a job's record.
+pub fn fetch_body(bytes: &[u8], holder: usize, place: usize, part: &mut [u64]) -> Result<(), Refusal> {
+    let bundle = read_bundle(bytes)?;
+    let file = bundle.file(holder)?;
+    demand(part.len() == 2, Refusal::Length)?;
+    bundle.place(place)?;
+    let body = &file.jobs[place].body;
+    part.copy_from_slice(&[body.start as u64, body.len() as u64]);
+    Ok(())
+}
+
+pub fn fetch_fault(bytes: &[u8], holder: usize, place: usize) -> Result<(), Refusal> {
+    fetch_body(bytes, holder, place, &mut [0; 2])
+}

@@ -1,0 +1,158 @@
+//! The polynomial of degree at most t that differs from e shares or fewer, by two methods: every set of t + 1 shares, and level by
+//! level through the bits (document 000, section 7.1.2.3).
+
+use crate::field::Field;
+use crate::ring::{Element, Ring, ZERO};
+use crate::sharing::Share;
+
+/// The free term, and the holders whose shares differ.
+#[derive(Clone, Copy, Debug, PartialEq, Eq)]
+pub struct Opened {
+    pub words: Element,
+    pub wrong: u64,
+}
+
+/// At least t + 1 + 2 e shares of different holders, in width.
+pub fn decode(ring: &Ring, t: usize, e: usize, shares: &[Share]) -> Option<Opened> {
+    if few_subsets(shares.len(), t + 1) {
+        by_subsets(ring, t, e, shares)
+    } else {
+        by_levels(ring, t, e, shares)
+    }
+}
+
+/// Whether trying all sets of this size is cheap.
+fn few_subsets(m: usize, size: usize) -> bool {
+    let mut sets = 1usize;
+    for i in 0..size.min(m - size) {
+        sets = sets * (m - i) / (i + 1);
+        if sets * size > 200 {
+            return false;
+        }
+    }
+    true
+}
+
+/// A polynomial that differs from e of t + 1 + 2 e shares goes through t + 1 of them, so it is met.
+pub fn by_subsets(ring: &Ring, t: usize, e: usize, shares: &[Share]) -> Option<Opened> {
+    let mut chosen: Vec<usize> = (0..=t).collect();
+    loop {
+        let through: Vec<Share> = chosen.iter().map(|i| shares[*i]).collect();
+        let p = lagrange(ring, &through);
+        let wrong = shares.iter().filter(|s| ring.value(&p, &ring.point(s.holder)) != s.words).fold(0, |set, s| set | s.bit());
+        if wrong.count_ones() as usize <= e {
+            return Some(Opened { words: p[0], wrong });
+        }
+        if !next_subset(&mut chosen, shares.len()) {
+            return None;
+        }
+    }
+}
+
+/// The next rising list of numbers below m, in the order of the alphabet.
+fn next_subset(chosen: &mut [usize], m: usize) -> bool {
+    let size = chosen.len();
+    let Some(last) = (0..size).rev().find(|i| chosen[*i] < m - size + i) else {
+        return false;
+    };
+    chosen[last] += 1;
+    for i in last + 1..size {
+        chosen[i] = chosen[i - 1] + 1;
+    }
+    true
+}
+
+/// The polynomial through the shares, by Lagrange's formula.
+fn lagrange(ring: &Ring, shares: &[Share]) -> Vec<Element> {
+    let mut nodal = vec![ZERO; shares.len() + 1];
+    nodal[0][0] = 1;
+    for share in shares {
+        let x = ring.point(share.holder);
+        for i in (0..nodal.len()).rev() {
+            let below = if i == 0 { ZERO } else { nodal[i - 1] };
+            nodal[i] = ring.sub(&below, &ring.mul(&x, &nodal[i]));
+        }
+    }
+    let mut sum = vec![ZERO; shares.len()];
+    for share in shares {
+        let x = ring.point(share.holder);
+        let basis = divide_by_root(ring, &nodal, &x);
+        let weight = ring.mul(&share.words, &ring.inverse(&ring.value(&basis, &x)));
+        for (s, b) in sum.iter_mut().zip(&basis) {
+            *s = ring.add(s, &ring.mul(&weight, b));
+        }
+    }
+    sum
+}
+
+/// p divided by Z - x, for a root x of p.
+fn divide_by_root(ring: &Ring, p: &[Element], x: &Element) -> Vec<Element> {
+    let mut quotient = vec![ZERO; p.len() - 1];
+    let mut carry = ZERO;
+    for i in (0..quotient.len()).rev() {
+        carry = ring.add(&p[i + 1], &ring.mul(x, &carry));
+        quotient[i] = carry;
+    }
+    quotient
+}
+
+/// At each level the field decoder treats the lowest bits of what remains; shares wrong there are dropped and the allowance falls.
+pub fn by_levels(ring: &Ring, t: usize, e: usize, shares: &[Share]) -> Option<Opened> {
+    let field = Field::new(ring.d);
+    let (mut left, mut allowance) = (shares.to_vec(), e);
+    let mut opened = Opened { words: ZERO, wrong: 0 };
+    for level in 0..ring.k {
+        let xs: Vec<u8> = left.iter().map(|s| s.holder as u8).collect();
+        let ys: Vec<u8> = left.iter().map(lowest_bits).collect();
+        let f = field.gao(t, &xs, &ys)?;
+        let right: Vec<bool> = xs.iter().zip(&ys).map(|(x, y)| field.value(&f, *x) == *y).collect();
+        let dropped = left.iter().zip(&right).filter(|(_, right)| !**right).fold(0, |set, (s, _)| set | s.bit());
+        allowance = allowance.checked_sub(dropped.count_ones() as usize)?;
+        opened.wrong |= dropped;
+        let lifted: Vec<Element> = f.iter().map(|c| ring.point((*c).into())).collect();
+        if let Some(free) = lifted.first() {
+            (0..ring.d).for_each(|j| opened.words[j] |= free[j] << level);
+        }
+        // What remains of a share is known to one bit fewer at each level; the bits above are never looked at.
+        left.retain(|s| dropped & s.bit() == 0);
+        for s in &mut left {
+            let value = ring.value(&lifted, &ring.point(s.holder));
+            s.words = ring.sub(&s.words, &value).map(|w| w >> 1);
+        }
+    }
+    Some(opened)
+}
+
+fn lowest_bits(share: &Share) -> u8 {
+    share.words.iter().rev().fold(0, |bits, w| bits << 1 | (w & 1) as u8)
+}
+
+#[cfg(test)]
+mod tests {
+    use super::*;
+    use crate::sharing::share;
+
+    /// Refusal 6 read as it stands: the first of all polynomials of degree at most t that differs from e shares or fewer.
+    fn by_definition(ring: &Ring, t: usize, e: usize, shares: &[Share]) -> Option<Opened> {
+        let elements: Vec<Element> = (0..16).map(|bits| share(1, &[bits & 3, bits >> 2]).words).collect();
+        (0..16usize.pow(t as u32 + 1)).find_map(|number| {
+            let p: Vec<Element> = (0..=t).map(|i| elements[number >> (4 * i) & 15]).collect();
+            let wrong = shares.iter().filter(|s| ring.value(&p, &ring.point(s.holder)) != s.words).fold(0, |set, s| set | s.bit());
+            (wrong.count_ones() as usize <= e).then_some(Opened { words: p[0], wrong })
+        })
+    }
+
+    /// Both methods and the definition on all shares of a small ring: k 2, d 2, three holders, every e that may be asked.
+    #[test]
+    fn the_methods_agree_with_the_definition() {
+        let ring = Ring::new(2, 2);
+        for number in 0..1u64 << 12 {
+            let shares: Vec<Share> = (0..3).map(|i| share(i + 1, &[number >> (4 * i) & 3, number >> (4 * i + 2) & 3])).collect();
+            for (t, e) in [(0, 0), (0, 1), (1, 0), (2, 0)] {
+                let opened = by_subsets(&ring, t, e, &shares);
+                assert_eq!(opened, by_levels(&ring, t, e, &shares));
+                assert!(t == 2 || opened == by_definition(&ring, t, e, &shares));
+            }
+        }
+    }
+}

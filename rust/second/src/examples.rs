@@ -1,0 +1,137 @@
+//! The bench examples of paper 01; those marked there are M1 to M12.
+
+use crate::*;
+
+const SMALL: Params = Params { k: 3, d: 2, n: 3, t: 1 };
+
+type Answer = (Result<(), Refusal>, Vec<u64>, u64);
+
+fn opening(p: Params, e: u64, shares: &[(u64, [u64; 2])]) -> Answer {
+    let holders: Vec<u64> = shares.iter().map(|s| s.0).collect();
+    let words: Vec<u64> = shares.iter().flat_map(|s| s.1).collect();
+    let (mut out, mut wrong) = (vec![77; 2], [88]);
+    let answer = open(p, &holders, &words, e, &mut out, &mut wrong);
+    (answer, out, wrong[0])
+}
+
+fn opens(words: [u64; 2], wrong: u64) -> Answer {
+    (Ok(()), words.to_vec(), wrong)
+}
+
+fn refused(refusal: Refusal) -> Answer {
+    (Err(refusal), vec![77; 2], 88)
+}
+
+fn product(p: Params, a: &[u64], b: &[u64]) -> Vec<u64> {
+    let mut out = vec![0; p.d];
+    scale(p, a, b, &mut out).unwrap();
+    out
+}
+
+fn signed_reading(k: u64, w: u64) -> i64 {
+    let mut out = [0];
+    signed(k, w, &mut out).unwrap();
+    out[0] as i64
+}
+
+#[test]
+fn ring_m1_m2_m3_m11() {
+    assert_eq!(product(SMALL, &[0, 1], &[0, 1]), [7, 7]);
+    assert_eq!(product(SMALL, &[0, 1], &[1, 1]), [7, 0]);
+    let mut out = [0; 2];
+    invert(SMALL, &[0, 1], &mut out).unwrap();
+    assert_eq!(out, [7, 7]);
+    let p = Params { k: 64, d: 4, n: 1, t: 0 };
+    assert_eq!(product(p, &[0, 0, 0, 1], &[0, 1, 0, 0]), [u64::MAX, u64::MAX, 0, 0]);
+}
+
+#[test]
+fn dealing_m4() {
+    let mut out = [0; 6];
+    deal(SMALL, &[5, 2], &[3, 1], &mut out).unwrap();
+    assert_eq!(out, [0, 3, 4, 4, 7, 5]);
+}
+
+#[test]
+fn opening_m5_to_m10() {
+    let dealt = [(1, [0, 3]), (2, [4, 4]), (3, [7, 5])];
+    assert_eq!(opening(SMALL, 0, &dealt), opens([5, 2], 0));
+    assert_eq!(opening(SMALL, 0, &[dealt[0], dealt[1], (3, [3, 5])]), refused(Refusal::NoCodeword));
+    assert_eq!(opening(SMALL, 0, &[(1, [0, 3]), (3, [3, 5])]), opens([1, 6], 0));
+    assert_eq!(opening(SMALL, 1, &dealt), refused(Refusal::TooFewShares));
+    let constant = Params { t: 0, ..SMALL };
+    assert_eq!(opening(constant, 1, &[(1, [5, 2]), (2, [5, 2]), (3, [1, 2])]), opens([5, 2], 4));
+    assert_eq!(opening(constant, 1, &[(1, [1, 2]), (2, [5, 2]), (3, [5, 2])]), opens([5, 2], 1));
+    assert_eq!(opening(constant, 1, &[(1, [5, 2]), (2, [1, 2]), (3, [7, 2])]), refused(Refusal::NoCodeword));
+    assert_eq!(opening(constant, 0, &[]), refused(Refusal::TooFewShares));
+}
+
+#[test]
+fn signed_m12() {
+    assert_eq!([signed_reading(8, 127), signed_reading(8, 128), signed_reading(1, 1)], [127, -128, -1]);
+}
+
+fn example_bundle() -> Vec<u8> {
+    let p = Params { t: 0, ..SMALL };
+    let mut files = vec![];
+    for (holder, words) in [(1, [5, 2, 5, 2]), (2, [5, 2, 1, 2]), (3, [1, 2, 7, 2])] {
+        let mut file = vec![0; 83];
+        write_file(p, holder, 7, &[10, 11], &words, &mut file).unwrap();
+        files.extend(file);
+    }
+    let mut bundle = vec![0; 256];
+    write_bundle(1, &files, &mut bundle).unwrap();
+    bundle
+}
+
+#[test]
+fn the_example_of_the_listing() {
+    let bundle = example_bundle();
+    let mut text = vec![];
+    for place in 0..2 {
+        let (mut line, mut length) = ([0; LINE], [0]);
+        list_line(&bundle, place, &mut line, &mut length).unwrap();
+        text.extend(&line[..length[0] as usize]);
+    }
+    assert_eq!(String::from_utf8(text).unwrap(), "10 open 3 -3,2\n11 6 - -\n");
+    assert_eq!(list_line(&bundle, 2, &mut [0; LINE], &mut [0]), Err(Refusal::OutOfRange));
+}
+
+#[test]
+fn ranges_of_a_book() {
+    let p = |n, t| Params { k: 64, d: 4, n, t }.check();
+    assert_eq!(
+        [p(15, 14), p(16, 0), p(3, 3), p(0, 0)],
+        [Ok(()), Err(Refusal::Parameters), Err(Refusal::Parameters), Err(Refusal::Parameters)]
+    );
+    let bundle = |jobs: u32| {
+        let mut bytes = example_bundle();
+        bytes.truncate(30);
+        bytes[26..30].copy_from_slice(&jobs.to_le_bytes());
+        accept(&bytes)
+    };
+    assert_eq!([bundle(0), bundle(1000), bundle(1001)], [Ok(()), Err(Refusal::Malformed), Err(Refusal::Parameters)]);
+}
+
+/// The refusals of a bundle, each made by one change of the example, some with a second fault that comes later.
+#[test]
+fn faults_in_byte_order() {
+    let change = |changes: &[(usize, u8)]| {
+        let mut bytes = example_bundle();
+        changes.iter().for_each(|(at, byte)| bytes[*at] = *byte);
+        accept(&bytes).err().map(|refusal| refusal as u8)
+    };
+    let second = 7 + 83;
+    assert_eq!(change(&[]), None);
+    assert_eq!(change(&[(13, 0)]), Some(1)); // k 0
+    assert_eq!(change(&[(17, 0), (28, 9)]), Some(1)); // holder 0 and J too large
+    assert_eq!(change(&[(17, 4)]), Some(4)); // holder above n
+    assert_eq!(change(&[(second + 10, 1)]), Some(4)); // holders do not rise
+    assert_eq!(change(&[(second + 11, 8), (second + 23, 0)]), Some(8)); // a stranger, its job's length at fault
+    assert_eq!(change(&[(second + 29, 12)]), Some(8)); // another job number
+    assert_eq!(change(&[(second + 29, 11), (second + 59, 11)]), Some(8));
+    assert_eq!(change(&[(36, 12)]), Some(7)); // job numbers fall
+    assert_eq!(change(&[(4, 1)]), Some(7)); // no order
+    assert_eq!(accept(&example_bundle()[..7]), Err(Refusal::Malformed));
+    assert_eq!(accept(&example_bundle()[..second]), Ok(()));
+}

@@ -1,0 +1,66 @@
+//! A second implementation of paper 01, written from the paper alone and by other methods than the library's: opening tries every
+//! set of t + 1 shares where there are few, and otherwise rises through the bits with Gao's decoder; the inverse is the solution of a
+//! linear system; bundles are parsed into values first. It is made to be compared with the library, so it prefers plain to fast.
+//!
+//! Every call writes its outputs only when it succeeds.
+
+mod bundle;
+mod decode;
+mod field;
+mod files;
+mod listing;
+mod ring;
+mod sharing;
+
+pub use bundle::{fetch_body, fetch_fault, open_place, open_run, total};
+pub use decode::{by_levels, by_subsets, Opened};
+pub use files::{accept, read_bundle, write_bundle, write_file, write_order, Bundle, File, Heading, Job};
+pub use listing::{list_line, signed, LINE};
+pub use ring::{Element, Ring};
+pub use sharing::{add, deal, invert, open, scale, share, Share};
+
+/// The numbers of paper 01's section 'When a call declines'.
+#[derive(Clone, Copy, Debug, PartialEq, Eq)]
+#[repr(u8)]
+pub enum Refusal {
+    Parameters = 1,
+    Length = 2,
+    WideWord = 3,
+    Holder = 4,
+    TooFewShares = 5,
+    NoCodeword = 6,
+    Malformed = 7,
+    Mismatched = 8,
+    OutOfRange = 9,
+}
+
+/// A book: the bits in a word, the words in an element, the holders, the degree.
+#[derive(Clone, Copy, Debug, PartialEq, Eq)]
+pub struct Params {
+    pub k: u64,
+    pub d: usize,
+    pub n: usize,
+    pub t: usize,
+}
+
+impl Params {
+    pub fn check(&self) -> Result<(), Refusal> {
+        let ranges = (1..=64).contains(&self.k) && (2..=6).contains(&self.d) && (1..1usize << self.d).contains(&self.n) && self.t < self.n;
+        demand(ranges, Refusal::Parameters)
+    }
+
+    pub fn ring(&self) -> Ring {
+        Ring::new(self.k as u32, self.d)
+    }
+}
+
+pub(crate) fn demand(fact: bool, otherwise: Refusal) -> Result<(), Refusal> {
+    if fact {
+        Ok(())
+    } else {
+        Err(otherwise)
+    }
+}
+
+#[cfg(test)]
+mod examples;

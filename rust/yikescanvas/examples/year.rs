@@ -1,0 +1,116 @@
+//! A year of the labs' jobs (k 16, d 4, n 15, t 4): dealt to fifteen labs, written to files, some of them lost and some damaged, then opened from
+//! what is left, each job and the total of the thicknesses. It draws from a fixed generator, so that its output can be stored; a lab draws its
+//! coefficients from the system's random numbers.
+use yikescanvas::*;
+
+const BOOK: Params = Params { k: 16, d: 4, n: 15, t: 4 };
+const JOBS: usize = 365;
+const ALLOWANCE: u8 = 3;
+
+/// SplitMix64: for an example only.
+struct Draw(u64);
+
+impl Draw {
+    fn next(&mut self) -> u64 {
+        self.0 = self.0.wrapping_add(0x9e37_79b9_7f4a_7c15);
+        let mut z = self.0;
+        z = (z ^ (z >> 30)).wrapping_mul(0xbf58_476d_1ce4_e5b9);
+        z = (z ^ (z >> 27)).wrapping_mul(0x94d0_49bb_1331_11eb);
+        z ^ (z >> 31)
+    }
+
+    fn below(&mut self, n: u64) -> u64 {
+        self.next() % n
+    }
+}
+
+/// Sphere and cylinder in hundredths of a dioptre, axis in degrees, thickness in hundredths of a millimetre, as words of 16 bits.
+fn job(draw: &mut Draw) -> [u64; 4] {
+    let sphere = 25 * draw.below(49) as i64 - 800;
+    let cylinder = -25 * draw.below(13) as i64;
+    [sphere as u64 & 0xffff, cylinder as u64 & 0xffff, draw.below(181), 70 + draw.below(40)]
+}
+
+fn main() -> Result<(), Refusal> {
+    let mut draw = Draw(2025);
+    let numbers: Vec<u64> = (0..JOBS as u64).map(|i| 1000 + 3 * i).collect();
+    let jobs: Vec<[u64; 4]> = (0..JOBS).map(|_| job(&mut draw)).collect();
+
+    // deal, and keep for each lab the words of its shares
+    let mut held = vec![Vec::new(); BOOK.n];
+    let mut shares = vec![0; BOOK.n * BOOK.d];
+    for words in &jobs {
+        let coefficients: Vec<u64> = (0..BOOK.t * BOOK.d).map(|_| draw.below(1 << BOOK.k)).collect();
+        deal(BOOK, words, &coefficients, &mut shares)?;
+        for (lab, share) in held.iter_mut().zip(shares.chunks(BOOK.d)) {
+            lab.extend_from_slice(share);
+        }
+    }
+
+    // damage: lab 5 has the top bit of one word turned in every job, lab 9 another archive's shares, lab 12 some words of a few jobs
+    for w in held[4].iter_mut().step_by(BOOK.d) {
+        *w ^= 1 << 15;
+    }
+    for w in &mut held[8] {
+        *w = draw.below(1 << BOOK.k);
+    }
+    for i in 0..40 {
+        let at = draw.below((JOBS * BOOK.d) as u64) as usize;
+        held[11][at] ^= 1 + i;
+    }
+
+    // files of all labs but 3 and 14, whose disks are lost
+    let size = file_size(BOOK, JOBS).expect("a file fits");
+    let mut files = Vec::new();
+    for (i, words) in held.iter().enumerate().filter(|(i, _)| *i != 2 && *i != 13) {
+        let mut file = vec![0; size];
+        write_file(BOOK, i + 1, 77, &numbers, words, &mut file)?;
+        files.extend(file);
+    }
+    let mut bundle = vec![0; ORDER_SIZE + files.len()];
+    write_bundle(ALLOWANCE, &files, &mut bundle)?;
+    println!("{JOBS} jobs in {} files, a bundle of {} bytes", files.len() / size, bundle.len());
+
+    // every job opens as it was dealt; which labs are named, and how often
+    let (mut right, mut named) = (0, [0; 15]);
+    for (place, words) in jobs.iter().enumerate() {
+        let mut out = [0; 4];
+        let wrong = open_place(&bundle, place, &mut out)?;
+        right += usize::from(out == *words);
+        holders(wrong).for_each(|lab| named[lab - 1] += 1);
+    }
+    println!("{right} open to the job that was dealt");
+    for (i, times) in named.iter().enumerate().filter(|(_, times)| **times != 0) {
+        println!("lab {}: wrong in {times}", i + 1);
+    }
+    let mut line = [0; LINE];
+    for place in 0..5 {
+        let n = list_line(&bundle, place, &mut line)?;
+        print!("{}", String::from_utf8_lossy(&line[..n]));
+    }
+
+    // the total of the thicknesses, opened while each job stays closed
+    let mut sums = [0; 4];
+    let wrong = open_run(&bundle, 0, JOBS, &mut sums)?;
+    let plain: u64 = jobs.iter().map(|w| w[3]).sum();
+    println!("thickness in all: {} (dealt {}), wrong: {:?}", sums[3], plain % (1 << BOOK.k), holders(wrong).collect::<Vec<_>>());
+    let mut share = [0; 4];
+    total(&bundle, 1, 0, JOBS, &mut share)?;
+    println!("lab 1's share of it: {share:?}");
+
+    // what does not open says why
+    println!("lab 3's file: {}", fetch_body(&bundle, 3, 0).unwrap_err());
+    println!("job 366: {}", open_place(&bundle, JOBS, &mut sums).unwrap_err());
+    println!("six files alone: {}", six(&files, size)?);
+    bundle.pop();
+    println!("a byte less: {}", accept(&bundle).unwrap_err());
+    println!("word 65535 reads {}", signed(BOOK.k, 65535)?);
+    Ok(())
+}
+
+/// The refusal of the first job from six files with the same allowance.
+fn six(files: &[u8], size: usize) -> Result<Refusal, Refusal> {
+    let mut bundle = vec![0; ORDER_SIZE + 6 * size];
+    write_bundle(ALLOWANCE, &files[..6 * size], &mut bundle)?;
+    Ok(open_place(&bundle, 0, &mut [0; 4]).unwrap_err())
+}

@@ -1,0 +1,259 @@
+//! Safe calls of Yikescanvas, an archive of jobs in Shamir shares over the Galois ring of words modulo 2^k. The library is proved; this crate
+//! hands it slices, and turns its numbers into [`Refusal`]. A call that declines leaves every output as it was.
+//!
+//! ```
+//! use yikescanvas::{deal, open_shares, Params};
+//!
+//! let book = Params { k: 3, d: 2, n: 3, t: 1 };
+//! let mut shares = [0; 6];
+//! deal(book, &[5, 2], &[3, 1], &mut shares)?;
+//! let mut job = [0; 2];
+//! assert_eq!(open_shares(book, &[1, 2, 3], &shares, 0, &mut job)?, 0);
+//! assert_eq!(job, [5, 2]);
+//! # Ok::<(), yikescanvas::Refusal>(())
+//! ```
+#![deny(missing_docs)]
+#[rustfmt::skip]
+mod ffi;
+
+use std::ops::Range;
+
+/// The book of an archive.
+#[derive(Clone, Copy, Debug, PartialEq, Eq)]
+pub struct Params {
+    /// The bits of a word, 1 to 64.
+    pub k: u64,
+    /// The words of an element, 2 to 6.
+    pub d: usize,
+    /// The holders, 1 to 2^d - 1.
+    pub n: usize,
+    /// The degree of the dealing polynomial, 0 to n - 1.
+    pub t: usize,
+}
+
+/// Why a call declines, with paper 01's numbers.
+#[derive(Clone, Copy, Debug, PartialEq, Eq)]
+#[repr(u8)]
+pub enum Refusal {
+    /// A number of the book, or the number of jobs, is out of its range.
+    Parameters = 1,
+    /// A list or an output has not the length that the call needs.
+    Length = 2,
+    /// A word that the call uses is 2^k or more.
+    WideWord = 3,
+    /// A holder is not from 1 to n, holders do not strictly rise, or the holder named has no file.
+    Holder = 4,
+    /// Fewer than t + 1 + 2e shares.
+    TooFewShares = 5,
+    /// No polynomial of degree t or less differs from e shares or fewer.
+    NoCodeword = 6,
+    /// Bytes that are no bundle, or job numbers that do not strictly rise.
+    Malformed = 7,
+    /// A file does not belong with the first.
+    Mismatched = 8,
+    /// A place or a run that is not there.
+    OutOfRange = 9,
+}
+
+impl Refusal {
+    /// Every refusal, in the order of the numbers.
+    pub const ALL: [Refusal; 9] = [
+        Refusal::Parameters,
+        Refusal::Length,
+        Refusal::WideWord,
+        Refusal::Holder,
+        Refusal::TooFewShares,
+        Refusal::NoCodeword,
+        Refusal::Malformed,
+        Refusal::Mismatched,
+        Refusal::OutOfRange,
+    ];
+
+    /// Paper 01's number.
+    pub fn number(self) -> u8 {
+        self as u8
+    }
+}
+
+impl std::fmt::Display for Refusal {
+    fn fmt(&self, f: &mut std::fmt::Formatter<'_>) -> std::fmt::Result {
+        let text = match self {
+            Refusal::Parameters => "parameters out of range",
+            Refusal::Length => "a length that the call does not need",
+            Refusal::WideWord => "a word of more than k bits",
+            Refusal::Holder => "a holder that is not there",
+            Refusal::TooFewShares => "too few shares",
+            Refusal::NoCodeword => "no polynomial near enough",
+            Refusal::Malformed => "malformed bytes",
+            Refusal::Mismatched => "files that do not belong together",
+            Refusal::OutOfRange => "a place that is not there",
+        };
+        write!(f, "{text} ({})", self.number())
+    }
+}
+
+impl std::error::Error for Refusal {}
+
+fn told(number: u8) -> Result<(), Refusal> {
+    match number {
+        0 => Ok(()),
+        c => Err(Refusal::ALL[usize::from(c) - 1]),
+    }
+}
+
+/// What every line of [`list_line`] fits into.
+pub const LINE: usize = 400;
+
+/// The bytes of an order.
+pub const ORDER_SIZE: usize = 7;
+
+/// The bytes of a file of so many jobs, `None` where they are too many to count.
+pub fn file_size(p: Params, jobs: usize) -> Option<usize> {
+    let job = p.d.checked_mul(8)?.checked_add(14)?;
+    jobs.checked_mul(job)?.checked_add(23)
+}
+
+/// The holders of a set, rising: bit i - 1 stands for holder i.
+pub fn holders(set: u64) -> impl Iterator<Item = usize> {
+    (1..=64).filter(move |i| set >> (i - 1) & 1 == 1)
+}
+
+// Every call below passes the pointer and the length of slices that live for the call, an output by `&mut`, so that it overlaps nothing: that is
+// all that the header asks of a caller.
+
+/// `out` = a + b, d words each.
+pub fn add(p: Params, a: &[u64], b: &[u64], out: &mut [u64]) -> Result<(), Refusal> {
+    told(unsafe { ffi::yikes_add(p.k, p.d, p.n, p.t, a.as_ptr(), a.len(), b.as_ptr(), b.len(), out.as_mut_ptr(), out.len()) })
+}
+
+/// `out` = a times b, d words each.
+pub fn scale(p: Params, a: &[u64], b: &[u64], out: &mut [u64]) -> Result<(), Refusal> {
+    told(unsafe { ffi::yikes_scale(p.k, p.d, p.n, p.t, a.as_ptr(), a.len(), b.as_ptr(), b.len(), out.as_mut_ptr(), out.len()) })
+}
+
+/// `out` = the inverse of a, or zero where a is zero modulo 2 and has none.
+pub fn invert(p: Params, a: &[u64], out: &mut [u64]) -> Result<(), Refusal> {
+    told(unsafe { ffi::yikes_invert(p.k, p.d, p.n, p.t, a.as_ptr(), a.len(), out.as_mut_ptr(), out.len()) })
+}
+
+/// Deals a job with t coefficients of d words each, drawn at random and then forgotten: n shares of d words, holder 1 first.
+pub fn deal(p: Params, job: &[u64], coefficients: &[u64], out: &mut [u64]) -> Result<(), Refusal> {
+    told(unsafe {
+        ffi::yikes_deal(p.k, p.d, p.n, p.t, job.as_ptr(), job.len(), coefficients.as_ptr(), coefficients.len(), out.as_mut_ptr(), out.len())
+    })
+}
+
+/// Opens a job from the shares of `holders`, d words each, of which at most e are wrong: the job's words go to `out`, and the set of the
+/// holders whose shares are wrong comes back.
+pub fn open_shares(p: Params, holders: &[u64], shares: &[u64], e: u64, out: &mut [u64]) -> Result<u64, Refusal> {
+    let mut wrong = [0];
+    told(unsafe {
+        ffi::yikes_open(
+            p.k,
+            p.d,
+            p.n,
+            p.t,
+            holders.as_ptr(),
+            holders.len(),
+            shares.as_ptr(),
+            shares.len(),
+            e,
+            out.as_mut_ptr(),
+            out.len(),
+            wrong.as_mut_ptr(),
+            wrong.len(),
+        )
+    })?;
+    Ok(wrong[0])
+}
+
+/// The signed reading of a word of k bits.
+pub fn signed(k: u64, w: u64) -> Result<i64, Refusal> {
+    let mut out = [0];
+    told(unsafe { ffi::yikes_signed(k, w, out.as_mut_ptr(), out.len()) })?;
+    Ok(out[0] as i64)
+}
+
+/// Writes a holder's file: a number and d words for each job, into [`file_size`] bytes.
+pub fn write_file(p: Params, holder: usize, archive: u64, numbers: &[u64], words: &[u64], out: &mut [u8]) -> Result<(), Refusal> {
+    told(unsafe {
+        ffi::yikes_write_file(
+            p.k,
+            p.d,
+            p.n,
+            p.t,
+            holder,
+            archive,
+            numbers.as_ptr(),
+            numbers.len(),
+            words.as_ptr(),
+            words.len(),
+            out.as_mut_ptr(),
+            out.len(),
+        )
+    })
+}
+
+/// Writes an order, into [`ORDER_SIZE`] bytes.
+pub fn write_order(e: u8, out: &mut [u8]) -> Result<(), Refusal> {
+    told(unsafe { ffi::yikes_write_order(e, out.as_mut_ptr(), out.len()) })
+}
+
+/// Writes a bundle of an order and files that stand one after another, into [`ORDER_SIZE`] bytes more than those.
+pub fn write_bundle(e: u8, files: &[u8], out: &mut [u8]) -> Result<(), Refusal> {
+    told(unsafe { ffi::yikes_write_bundle(e, files.as_ptr(), files.len(), out.as_mut_ptr(), out.len()) })
+}
+
+/// Whether a bundle is accepted.
+pub fn accept(bundle: &[u8]) -> Result<(), Refusal> {
+    told(unsafe { ffi::yikes_accept(bundle.as_ptr(), bundle.len()) })
+}
+
+/// Opens the job at a place: its words go to `out`, and the set of the wrong holders comes back.
+pub fn open_place(bundle: &[u8], place: usize, out: &mut [u64]) -> Result<u64, Refusal> {
+    let mut wrong = [0];
+    told(unsafe {
+        ffi::yikes_open_place(bundle.as_ptr(), bundle.len(), place, out.as_mut_ptr(), out.len(), wrong.as_mut_ptr(), wrong.len())
+    })?;
+    Ok(wrong[0])
+}
+
+/// The total of a holder's file over the places a to b - 1.
+pub fn total(bundle: &[u8], holder: usize, a: usize, b: usize, out: &mut [u64]) -> Result<(), Refusal> {
+    told(unsafe { ffi::yikes_total(bundle.as_ptr(), bundle.len(), holder, a, b, out.as_mut_ptr(), out.len()) })
+}
+
+/// Opens the sum of the jobs at the places a to b - 1, as [`open_place`] does one job.
+pub fn open_run(bundle: &[u8], a: usize, b: usize, out: &mut [u64]) -> Result<u64, Refusal> {
+    let mut wrong = [0];
+    told(unsafe {
+        ffi::yikes_open_run(bundle.as_ptr(), bundle.len(), a, b, out.as_mut_ptr(), out.len(), wrong.as_mut_ptr(), wrong.len())
+    })?;
+    Ok(wrong[0])
+}
+
+/// Where the body of a job record stands in the bundle, by holder and place.
+pub fn fetch_range(bundle: &[u8], holder: usize, place: usize) -> Result<Range<usize>, Refusal> {
+    let mut part = [0; 2];
+    told(unsafe { ffi::yikes_fetch_body(bundle.as_ptr(), bundle.len(), holder, place, part.as_mut_ptr(), part.len()) })?;
+    Ok(part[0] as usize..(part[0] + part[1]) as usize)
+}
+
+/// The body of a job record, as that part of the bundle.
+pub fn fetch_body(bundle: &[u8], holder: usize, place: usize) -> Result<&[u8], Refusal> {
+    Ok(&bundle[fetch_range(bundle, holder, place)?])
+}
+
+/// Whether the fetch of a job's body succeeds.
+pub fn fetch_fault(bundle: &[u8], holder: usize, place: usize) -> Result<(), Refusal> {
+    told(unsafe { ffi::yikes_fetch_fault(bundle.as_ptr(), bundle.len(), holder, place) })
+}
+
+/// Writes the listing's line of the job at a place from the start of `line`, which has [`LINE`] bytes or more, and gives its length.
+pub fn list_line(bundle: &[u8], place: usize, line: &mut [u8]) -> Result<usize, Refusal> {
+    let mut length = [0];
+    told(unsafe {
+        ffi::yikes_list_line(bundle.as_ptr(), bundle.len(), place, line.as_mut_ptr(), line.len(), length.as_mut_ptr(), length.len())
+    })?;
+    Ok(length[0] as usize)
+}

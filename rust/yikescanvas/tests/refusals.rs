@@ -1,0 +1,283 @@
+//! Each call: what it gives on the examples of paper 01, and every number that it can decline with, its outputs as they were.
+use yikescanvas::*;
+
+const POISON: u64 = 0xa5a5_a5a5_a5a5_a5a5;
+const BOOK: Params = Params { k: 3, d: 2, n: 3, t: 1 };
+const FLAT: Params = Params { k: 3, d: 2, n: 3, t: 0 };
+
+/// Runs a call on an output of poisoned words: it declines as named, and leaves them.
+fn declines<T: std::fmt::Debug + PartialEq>(expected: Refusal, length: usize, call: impl FnOnce(&mut [u64]) -> Result<T, Refusal>) {
+    let mut out = vec![POISON; length];
+    assert_eq!(call(&mut out), Err(expected));
+    assert!(out.iter().all(|w| *w == POISON));
+}
+
+/// The same on an output of bytes.
+fn declines_bytes<T: std::fmt::Debug + PartialEq>(expected: Refusal, length: usize, call: impl FnOnce(&mut [u8]) -> Result<T, Refusal>) {
+    let mut out = vec![0xa5; length];
+    assert_eq!(call(&mut out), Err(expected));
+    assert!(out.iter().all(|b| *b == 0xa5));
+}
+
+/// Books with one number out of its range.
+fn outside() -> Vec<Params> {
+    let mut books = vec![];
+    for k in [0, 65, u64::MAX] {
+        books.push(Params { k, ..BOOK });
+    }
+    for d in [0, 1, 7, usize::MAX] {
+        books.push(Params { d, ..BOOK });
+    }
+    for n in [0, 4, usize::MAX] {
+        books.push(Params { n, ..BOOK });
+    }
+    for t in [3, usize::MAX] {
+        books.push(Params { t, ..BOOK });
+    }
+    books.push(Params { k: 64, d: 4, n: 16, t: 4 });
+    books.push(Params { k: 64, d: 6, n: 64, t: 4 });
+    books
+}
+
+/// Paper 01's bundle of 256 bytes.
+fn bundle() -> Vec<u8> {
+    let words = [[5, 2, 5, 2], [5, 2, 1, 2], [1, 2, 7, 2]];
+    let size = file_size(FLAT, 2).unwrap();
+    let mut files = vec![0; 3 * size];
+    for (i, file) in files.chunks_mut(size).enumerate() {
+        write_file(FLAT, i + 1, 7, &[10, 11], &words[i], file).unwrap();
+    }
+    let mut bundle = vec![0; ORDER_SIZE + files.len()];
+    write_bundle(1, &files, &mut bundle).unwrap();
+    assert_eq!(bundle.len(), 256);
+    bundle
+}
+
+#[test]
+fn numbers_are_the_papers() {
+    for (i, refusal) in Refusal::ALL.iter().enumerate() {
+        assert_eq!(usize::from(refusal.number()), i + 1);
+        assert!(refusal.to_string().ends_with(&format!("({})", i + 1)));
+    }
+}
+
+#[test]
+fn elements() {
+    let mut out = [0; 2];
+    assert_eq!(scale(BOOK, &[0, 1], &[0, 1], &mut out), Ok(()));
+    assert_eq!(out, [7, 7]);
+    assert_eq!(scale(BOOK, &[0, 1], &[1, 1], &mut out), Ok(()));
+    assert_eq!(out, [7, 0]);
+    assert_eq!(invert(BOOK, &[0, 1], &mut out), Ok(()));
+    assert_eq!(out, [7, 7]);
+    assert_eq!(invert(BOOK, &[2, 4], &mut out), Ok(()));
+    assert_eq!(out, [0, 0]);
+    assert_eq!(add(BOOK, &[7, 7], &[1, 2], &mut out), Ok(()));
+    assert_eq!(out, [0, 1]);
+    for p in outside() {
+        declines(Refusal::Parameters, 2, |o| add(p, &[0, 1], &[8, 8], o));
+        declines(Refusal::Parameters, 0, |o| scale(p, &[], &[], o));
+        declines(Refusal::Parameters, 2, |o| invert(p, &[0, 1], o));
+    }
+    for n in [0, 1, 3, 1000] {
+        let long = vec![0; n];
+        declines(Refusal::Length, 2, |o| add(BOOK, &long, &[8, 8], o));
+        declines(Refusal::Length, 2, |o| add(BOOK, &[0, 1], &long, o));
+        declines(Refusal::Length, n, |o| add(BOOK, &[0, 1], &[0, 1], o));
+        declines(Refusal::Length, 2, |o| scale(BOOK, &long, &[0, 1], o));
+        declines(Refusal::Length, n, |o| scale(BOOK, &[0, 1], &[0, 1], o));
+        declines(Refusal::Length, 2, |o| invert(BOOK, &long, o));
+        declines(Refusal::Length, n, |o| invert(BOOK, &[0, 8], o));
+    }
+    declines(Refusal::WideWord, 2, |o| add(BOOK, &[8, 1], &[0, 1], o));
+    declines(Refusal::WideWord, 2, |o| scale(BOOK, &[0, 1], &[0, u64::MAX], o));
+    declines(Refusal::WideWord, 2, |o| invert(BOOK, &[8, 1], o));
+}
+
+#[test]
+fn shares() {
+    let mut shares = [0; 6];
+    assert_eq!(deal(BOOK, &[5, 2], &[3, 1], &mut shares), Ok(()));
+    assert_eq!(shares, [0, 3, 4, 4, 7, 5]);
+    let mut out = [0; 2];
+    assert_eq!(open_shares(BOOK, &[1, 2, 3], &shares, 0, &mut out), Ok(0));
+    assert_eq!(out, [5, 2]);
+    assert_eq!(open_shares(BOOK, &[1, 3], &[0, 3, 3, 5], 0, &mut out), Ok(0));
+    assert_eq!(out, [1, 6]);
+    assert_eq!(open_shares(FLAT, &[1, 2, 3], &[5, 2, 5, 2, 1, 2], 1, &mut out), Ok(4));
+    assert_eq!(out, [5, 2]);
+    assert_eq!(holders(0b101).collect::<Vec<_>>(), [1, 3]);
+
+    for p in outside() {
+        declines(Refusal::Parameters, 6, |o| deal(p, &[5, 2], &[3, 1], o));
+        declines(Refusal::Parameters, 2, |o| open_shares(p, &[], &[], u64::MAX, o));
+    }
+    for n in [0, 1, 3, 5, 1000] {
+        let long = vec![0; n];
+        declines(Refusal::Length, 6, |o| deal(BOOK, &long, &[3, 1], o));
+        declines(Refusal::Length, 6, |o| deal(BOOK, &[5, 2], &long, o));
+        declines(Refusal::Length, n, |o| deal(BOOK, &[5, 2], &[3, 1], o));
+        declines(Refusal::Length, 2, |o| open_shares(BOOK, &[1, 2, 3], &long, 0, o));
+        declines(Refusal::Length, n, |o| open_shares(BOOK, &[1, 2, 3], &shares, 0, o));
+    }
+    declines(Refusal::WideWord, 6, |o| deal(BOOK, &[8, 2], &[3, 1], o));
+    declines(Refusal::WideWord, 6, |o| deal(BOOK, &[5, 2], &[3, 8], o));
+    for wrong in [[0, 1, 2], [1, 2, 4], [1, 1, 3], [2, 1, 3], [1, 2, u64::MAX]] {
+        declines(Refusal::Holder, 2, |o| open_shares(BOOK, &wrong, &[8; 6], 0, o));
+    }
+    declines(Refusal::WideWord, 2, |o| open_shares(BOOK, &[1, 2, 3], &[0, 3, 4, 4, 7, 8], 1, o));
+    for e in [1, 2, 1 << 63, u64::MAX] {
+        declines(Refusal::TooFewShares, 2, |o| open_shares(BOOK, &[1, 2, 3], &shares, e, o));
+    }
+    declines(Refusal::TooFewShares, 2, |o| open_shares(BOOK, &[], &[], 0, o));
+    declines(Refusal::NoCodeword, 2, |o| open_shares(BOOK, &[1, 2, 3], &[0, 3, 4, 4, 3, 5], 0, o));
+}
+
+#[test]
+fn readings() {
+    for (k, w, value) in [(8, 127, 127), (8, 128, -128), (1, 1, -1), (64, u64::MAX, -1), (64, 1 << 63, i64::MIN), (63, 1 << 62, -(1 << 62))]
+    {
+        assert_eq!(signed(k, w), Ok(value));
+    }
+    assert_eq!(signed(0, 0), Err(Refusal::Parameters));
+    assert_eq!(signed(65, u64::MAX), Err(Refusal::Parameters));
+    assert_eq!(signed(8, 256), Err(Refusal::WideWord));
+}
+
+#[test]
+fn writers() {
+    let mut order = [0; ORDER_SIZE];
+    assert_eq!(write_order(1, &mut order), Ok(()));
+    assert_eq!(order, [3, 0, 0, 0, 16, 0, 1]);
+    for n in [0, 6, 8] {
+        declines_bytes(Refusal::Length, n, |o| write_order(1, o));
+    }
+    for p in outside() {
+        declines_bytes(Refusal::Parameters, 83, |o| write_file(p, 0, 7, &[10, 10], &[8; 4], o));
+    }
+    let many: Vec<u64> = (0..1001).collect();
+    let size = file_size(FLAT, many.len()).unwrap();
+    declines_bytes(Refusal::Parameters, size, |o| write_file(FLAT, 1, 7, &many, &[0; 2002], o));
+    for n in [0, 82, 84] {
+        declines_bytes(Refusal::Length, n, |o| write_file(FLAT, 0, 7, &[10, 11], &[5, 2, 5, 2], o));
+    }
+    declines_bytes(Refusal::Length, 83, |o| write_file(FLAT, 1, 7, &[10, 11], &[5, 2, 5], o));
+    declines_bytes(Refusal::Holder, 83, |o| write_file(FLAT, 0, 7, &[10, 10], &[8; 4], o));
+    declines_bytes(Refusal::Holder, 83, |o| write_file(FLAT, usize::MAX, 7, &[10, 11], &[5, 2, 5, 2], o));
+    declines_bytes(Refusal::Malformed, 83, |o| write_file(FLAT, 1, 7, &[10, 10], &[8; 4], o));
+    declines_bytes(Refusal::WideWord, 83, |o| write_file(FLAT, 1, 7, &[10, 11], &[5, 2, 5, 8], o));
+    assert_eq!(file_size(Params { d: usize::MAX, ..FLAT }, 1), None);
+    assert_eq!(file_size(FLAT, usize::MAX), None);
+
+    let bundle = bundle();
+    let files = &bundle[ORDER_SIZE..];
+    for n in [0, 255, 257] {
+        declines_bytes(Refusal::Length, n, |o| write_bundle(1, files, o));
+    }
+    declines_bytes(Refusal::Malformed, 7, |o| write_bundle(1, &[], o));
+    declines_bytes(Refusal::Malformed, 255, |o| write_bundle(1, &files[..248], o));
+    let swapped = [&files[83..166], &files[..83]].concat();
+    declines_bytes(Refusal::Holder, 173, |o| write_bundle(1, &swapped, o));
+    let mut stranger = files.to_vec();
+    stranger[83 + 11] ^= 1;
+    declines_bytes(Refusal::Mismatched, 256, |o| write_bundle(1, &stranger, o));
+    stranger[6] = 65;
+    declines_bytes(Refusal::Parameters, 256, |o| write_bundle(1, &stranger, o));
+}
+
+/// Every call on a bundle declines with the bundle's own number, whatever else is wrong.
+fn refuses(expected: Refusal, bytes: &[u8]) {
+    assert_eq!(accept(bytes), Err(expected));
+    for n in [0, 2] {
+        declines(expected, n, |o| open_place(bytes, usize::MAX, o));
+        declines(expected, n, |o| open_run(bytes, 9, 0, o));
+        declines(expected, n, |o| total(bytes, 0, 9, 0, o));
+    }
+    assert_eq!(fetch_body(bytes, 0, usize::MAX), Err(expected));
+    assert_eq!(fetch_range(bytes, 1, 0), Err(expected));
+    assert_eq!(fetch_fault(bytes, 0, usize::MAX), Err(expected));
+    for n in [0, LINE] {
+        declines_bytes(expected, n, |o| list_line(bytes, usize::MAX, o));
+    }
+}
+
+#[test]
+fn faults() {
+    let right = bundle();
+    let changed = |at: usize, value: u8| {
+        let mut bytes = right.clone();
+        bytes[at] = value;
+        bytes
+    };
+    refuses(Refusal::Malformed, &[]);
+    refuses(Refusal::Malformed, &right[..7]);
+    refuses(Refusal::Malformed, &right[..255]);
+    refuses(Refusal::Malformed, &changed(7, 20));
+    refuses(Refusal::Malformed, &changed(66, 10));
+    for (at, value) in [(13, 0), (13, 65), (15, 4), (16, 3), (27, 4)] {
+        refuses(Refusal::Parameters, &changed(at, value));
+    }
+    for (at, value) in [(17, 0), (17, 4), (100, 1)] {
+        refuses(Refusal::Holder, &changed(at, value));
+    }
+    for (at, value) in [(101, 8), (96, 4), (119, 9)] {
+        refuses(Refusal::Mismatched, &changed(at, value));
+    }
+}
+
+#[test]
+fn bundles() {
+    let bundle = bundle();
+    let mut out = [0; 2];
+    assert_eq!(accept(&bundle), Ok(()));
+    assert_eq!(open_place(&bundle, 0, &mut out), Ok(4));
+    assert_eq!(out, [5, 2]);
+    assert_eq!(total(&bundle, 1, 0, 2, &mut out), Ok(()));
+    assert_eq!(out, [2, 4]);
+    assert_eq!(open_run(&bundle, 1, 1, &mut out), Ok(0));
+    assert_eq!(out, [0, 0]);
+    assert_eq!(open_run(&bundle, 0, 1, &mut out), Ok(4));
+    assert_eq!(out, [5, 2]);
+    assert_eq!(fetch_range(&bundle, 2, 1), Ok(149..173));
+    assert_eq!(fetch_body(&bundle, 2, 1).map(|b| b[0]), Ok(11));
+    assert_eq!(fetch_fault(&bundle, 2, 1), Ok(()));
+    let mut line = [0xa5; LINE + 1];
+    assert_eq!(list_line(&bundle, 0, &mut line), Ok(15));
+    assert_eq!(&line[..15], b"10 open 3 -3,2\n");
+    assert!(line[15..].iter().all(|b| *b == 0xa5));
+
+    declines(Refusal::NoCodeword, 2, |o| open_place(&bundle, 1, o));
+    declines(Refusal::NoCodeword, 2, |o| open_run(&bundle, 0, 2, o));
+    for place in [2, usize::MAX] {
+        declines(Refusal::OutOfRange, 2, |o| open_place(&bundle, place, o));
+        assert_eq!(fetch_body(&bundle, 2, place), Err(Refusal::OutOfRange));
+        assert_eq!(fetch_fault(&bundle, 2, place), Err(Refusal::OutOfRange));
+        declines_bytes(Refusal::OutOfRange, LINE, |o| list_line(&bundle, place, o));
+    }
+    for (a, b) in [(2, 1), (0, 3), (0, usize::MAX), (usize::MAX, usize::MAX)] {
+        declines(Refusal::OutOfRange, 2, |o| open_run(&bundle, a, b, o));
+        declines(Refusal::OutOfRange, 2, |o| total(&bundle, 1, a, b, o));
+    }
+    for n in [0, 1, 3] {
+        declines(Refusal::Length, n, |o| open_place(&bundle, 9, o));
+        declines(Refusal::Length, n, |o| open_run(&bundle, 9, 8, o));
+        declines(Refusal::Length, n, |o| total(&bundle, 1, 9, 8, o));
+    }
+    for holder in [0, 4, usize::MAX] {
+        declines(Refusal::Holder, 0, |o| total(&bundle, holder, 9, 8, o));
+        assert_eq!(fetch_body(&bundle, holder, 9), Err(Refusal::Holder));
+        assert_eq!(fetch_fault(&bundle, holder, 9), Err(Refusal::Holder));
+    }
+    for n in [0, LINE - 1] {
+        declines_bytes(Refusal::Length, n, |o| list_line(&bundle, 9, o));
+    }
+    let mut wide = bundle.clone();
+    wide[74] = 8;
+    declines(Refusal::WideWord, 2, |o| open_place(&wide, 1, o));
+    declines(Refusal::WideWord, 2, |o| open_run(&wide, 0, 2, o));
+    declines(Refusal::WideWord, 2, |o| total(&wide, 1, 1, 2, o));
+    let mut few = bundle.clone();
+    few[6] = 2;
+    declines(Refusal::TooFewShares, 2, |o| open_place(&few, 0, o));
+    declines(Refusal::TooFewShares, 2, |o| open_run(&few, 0, 0, o));
+}

@@ -1,0 +1,453 @@
+/*
+ * Calls every function of include/yikescanvas.h: what it gives on the examples of paper 01, every number that it can decline with, lengths that
+ * are wrong, zero with a null pointer, or too large to multiply, and that a call that declines leaves its outputs as they were.
+ * Prints 'N checks', or a line for each that failed, and then exits with 1.
+ */
+#include <stdint.h>
+#include <stdio.h>
+#include <string.h>
+
+#include "yikescanvas.h"
+
+#define COUNT(a) (sizeof(a) / sizeof((a)[0]))
+#define HUGE_LENGTH (SIZE_MAX / 16)
+
+static unsigned long checks;
+static unsigned long failures;
+
+static void check(int holds, int line, const char *what) {
+    checks++;
+    if (!holds) {
+        failures++;
+        printf("line %d failed: %s\n", line, what);
+    }
+}
+
+/* All outputs stand in one block that is filled before each call, so that a stray write beside an output shows too. */
+static struct {
+    uint64_t before[8];
+    uint64_t words[512];
+    uint64_t between[8];
+    uint64_t second[8];
+    uint8_t bytes[8192];
+    uint64_t after[8];
+} o, fresh;
+
+static void poison(void) {
+    memset(&fresh, 0xa5, sizeof fresh);
+    memset(&o, 0xa5, sizeof o);
+}
+
+static int untouched(void) {
+    return memcmp(&o, &fresh, sizeof o) == 0;
+}
+
+/* Whether the outputs hold what is expected and nothing beside them: put the expected words where they belong in the fresh block first. */
+static int now_holds(const uint64_t *words, size_t n, const uint64_t *second, size_t m) {
+    if (n != 0) memcpy(fresh.words, words, n * sizeof *words);
+    if (m != 0) memcpy(fresh.second, second, m * sizeof *second);
+    return untouched();
+}
+
+static int now_bytes(const void *bytes, size_t n) {
+    memcpy(fresh.bytes, bytes, n);
+    return untouched();
+}
+
+#define DECLINES(number, call)                                       \
+    do {                                                             \
+        poison();                                                    \
+        check((call) == (number) && untouched(), __LINE__, #call);   \
+    } while (0)
+
+#define GIVES(call, expected)                                        \
+    do {                                                             \
+        poison();                                                    \
+        check((call) == YIKES_OK && (expected), __LINE__, #call);    \
+    } while (0)
+
+#define BOOK 3, 2, 3
+#define OUT o.words, 2
+#define SECOND o.second, 1
+
+/* Parameters that are out of their ranges, each in one number. */
+static const struct {
+    uint64_t k;
+    size_t d, n, t;
+} outside[] = {
+    {0, 2, 3, 1},  {65, 2, 3, 1}, {UINT64_MAX, 2, 3, 1}, {3, 1, 1, 0},        {3, 7, 3, 1},        {3, 0, 0, 0},       {3, SIZE_MAX, 3, 1},
+    {3, 2, 0, 0},  {3, 2, 4, 1},  {3, 4, 16, 1},         {3, 6, 64, 1},       {3, 2, SIZE_MAX, 1}, {3, 2, 3, 3},       {3, 2, 3, SIZE_MAX},
+    {0, 0, 0, 0},
+};
+
+static void elements(void) {
+    const uint64_t x[2] = {0, 1}, y[2] = {1, 1}, wide[2] = {8, 0}, even[2] = {2, 4};
+    const uint64_t m1[2] = {7, 7}, m2[2] = {7, 0}, sum[2] = {1, 2}, zero[2] = {0, 0};
+    size_t i;
+
+    GIVES(yikes_scale(BOOK, 1, x, 2, x, 2, OUT), now_holds(m1, 2, NULL, 0));
+    GIVES(yikes_scale(BOOK, 1, x, 2, y, 2, OUT), now_holds(m2, 2, NULL, 0));
+    GIVES(yikes_invert(BOOK, 1, x, 2, OUT), now_holds(m1, 2, NULL, 0));
+    GIVES(yikes_invert(BOOK, 1, even, 2, OUT), now_holds(zero, 2, NULL, 0));
+    GIVES(yikes_add(BOOK, 1, x, 2, y, 2, OUT), now_holds(sum, 2, NULL, 0));
+    GIVES(yikes_add(BOOK, 0, m1, 2, y, 2, OUT), now_holds(zero, 2, NULL, 0));
+
+    for (i = 0; i < COUNT(outside); i++) {
+        const uint64_t k = outside[i].k;
+        const size_t d = outside[i].d, n = outside[i].n, t = outside[i].t;
+        DECLINES(YIKES_PARAMETERS, yikes_add(k, d, n, t, x, 2, y, 2, OUT));
+        DECLINES(YIKES_PARAMETERS, yikes_scale(k, d, n, t, x, 2, y, 2, OUT));
+        DECLINES(YIKES_PARAMETERS, yikes_invert(k, d, n, t, x, 2, OUT));
+        DECLINES(YIKES_PARAMETERS, yikes_add(k, d, n, t, NULL, 0, NULL, 0, NULL, 0));
+    }
+
+    DECLINES(YIKES_LENGTH, yikes_add(BOOK, 1, x, 1, y, 2, OUT));
+    DECLINES(YIKES_LENGTH, yikes_add(BOOK, 1, x, 2, y, 1, OUT));
+    DECLINES(YIKES_LENGTH, yikes_add(BOOK, 1, x, 2, y, 2, o.words, 1));
+    DECLINES(YIKES_LENGTH, yikes_add(BOOK, 1, x, 2, y, 2, o.words, 3));
+    DECLINES(YIKES_LENGTH, yikes_add(BOOK, 1, NULL, 0, y, 2, OUT));
+    DECLINES(YIKES_LENGTH, yikes_add(BOOK, 1, x, 2, NULL, 0, OUT));
+    DECLINES(YIKES_LENGTH, yikes_add(BOOK, 1, x, 2, y, 2, NULL, 0));
+    DECLINES(YIKES_LENGTH, yikes_add(BOOK, 1, x, HUGE_LENGTH, y, 2, OUT));
+    DECLINES(YIKES_LENGTH, yikes_add(BOOK, 1, x, 2, y, 2, o.words, HUGE_LENGTH));
+    DECLINES(YIKES_LENGTH, yikes_scale(BOOK, 1, x, 3, y, 2, OUT));
+    DECLINES(YIKES_LENGTH, yikes_scale(BOOK, 1, x, 2, NULL, 0, OUT));
+    DECLINES(YIKES_LENGTH, yikes_scale(BOOK, 1, x, 2, y, 2, NULL, 0));
+    DECLINES(YIKES_LENGTH, yikes_scale(BOOK, 1, x, 2, y, HUGE_LENGTH, OUT));
+    DECLINES(YIKES_LENGTH, yikes_invert(BOOK, 1, x, 1, OUT));
+    DECLINES(YIKES_LENGTH, yikes_invert(BOOK, 1, NULL, 0, OUT));
+    DECLINES(YIKES_LENGTH, yikes_invert(BOOK, 1, x, 2, NULL, 0));
+    DECLINES(YIKES_LENGTH, yikes_invert(BOOK, 1, wide, 2, o.words, 3));
+
+    DECLINES(YIKES_WIDE_WORD, yikes_add(BOOK, 1, wide, 2, y, 2, OUT));
+    DECLINES(YIKES_WIDE_WORD, yikes_add(BOOK, 1, x, 2, wide, 2, OUT));
+    DECLINES(YIKES_WIDE_WORD, yikes_scale(BOOK, 1, wide, 2, y, 2, OUT));
+    DECLINES(YIKES_WIDE_WORD, yikes_scale(BOOK, 1, x, 2, wide, 2, OUT));
+    DECLINES(YIKES_WIDE_WORD, yikes_invert(BOOK, 1, wide, 2, OUT));
+}
+
+static void sharing(void) {
+    const uint64_t job[2] = {5, 2}, other[2] = {3, 1}, shares[6] = {0, 3, 4, 4, 7, 5}, wide[6] = {0, 3, 4, 8, 7, 5};
+    const uint64_t moved[6] = {0, 3, 4, 4, 3, 5}, two[4] = {0, 3, 3, 5}, constant[6] = {5, 2, 5, 2, 1, 2}, same[6] = {5, 2, 5, 2, 5, 2};
+    const uint64_t all[3] = {1, 2, 3}, ends[2] = {1, 3}, m7[2] = {1, 6}, none[1] = {0}, third[1] = {4};
+    const uint64_t zeroth[3] = {0, 1, 2}, fourth[3] = {1, 2, 4}, twice[3] = {1, 1, 3}, falling[3] = {2, 1, 3}, far[3] = {1, 2, UINT64_MAX};
+    size_t i;
+
+    GIVES(yikes_deal(BOOK, 1, job, 2, other, 2, o.words, 6), now_holds(shares, 6, NULL, 0));
+    GIVES(yikes_open(BOOK, 1, all, 3, shares, 6, 0, OUT, SECOND), now_holds(job, 2, none, 1));
+    GIVES(yikes_open(BOOK, 1, ends, 2, two, 4, 0, OUT, SECOND), now_holds(m7, 2, none, 1));
+    GIVES(yikes_open(BOOK, 0, all, 3, constant, 6, 1, OUT, SECOND), now_holds(job, 2, third, 1));
+
+    for (i = 0; i < COUNT(outside); i++) {
+        const uint64_t k = outside[i].k;
+        const size_t d = outside[i].d, n = outside[i].n, t = outside[i].t;
+        DECLINES(YIKES_PARAMETERS, yikes_deal(k, d, n, t, job, 2, other, 2, o.words, 6));
+        DECLINES(YIKES_PARAMETERS, yikes_open(k, d, n, t, all, 3, shares, 6, 0, OUT, SECOND));
+        DECLINES(YIKES_PARAMETERS, yikes_open(k, d, n, t, NULL, 0, NULL, 0, UINT64_MAX, NULL, 0, NULL, 0));
+        DECLINES(YIKES_PARAMETERS, yikes_deal(k, d, n, t, NULL, 0, NULL, 0, NULL, 0));
+    }
+
+    DECLINES(YIKES_LENGTH, yikes_deal(BOOK, 1, job, 1, other, 2, o.words, 6));
+    DECLINES(YIKES_LENGTH, yikes_deal(BOOK, 1, job, 2, other, 1, o.words, 6));
+    DECLINES(YIKES_LENGTH, yikes_deal(BOOK, 1, job, 2, other, 2, o.words, 5));
+    DECLINES(YIKES_LENGTH, yikes_deal(BOOK, 1, job, 2, other, 2, o.words, 7));
+    DECLINES(YIKES_LENGTH, yikes_deal(BOOK, 1, NULL, 0, other, 2, o.words, 6));
+    DECLINES(YIKES_LENGTH, yikes_deal(BOOK, 1, job, 2, NULL, 0, o.words, 6));
+    DECLINES(YIKES_LENGTH, yikes_deal(BOOK, 1, job, 2, other, 2, NULL, 0));
+    DECLINES(YIKES_LENGTH, yikes_deal(BOOK, 1, job, 2, other, HUGE_LENGTH, o.words, HUGE_LENGTH));
+    DECLINES(YIKES_WIDE_WORD, yikes_deal(BOOK, 1, wide + 2, 2, other, 2, o.words, 6));
+    DECLINES(YIKES_WIDE_WORD, yikes_deal(BOOK, 1, job, 2, wide + 2, 2, o.words, 6));
+    /* with t 0 there are no coefficients, and none is right */
+    GIVES(yikes_deal(BOOK, 0, job, 2, NULL, 0, o.words, 6), now_holds(same, 6, NULL, 0));
+
+    DECLINES(YIKES_LENGTH, yikes_open(BOOK, 1, all, 3, shares, 5, 0, OUT, SECOND));
+    DECLINES(YIKES_LENGTH, yikes_open(BOOK, 1, all, 3, shares, 4, 0, OUT, SECOND));
+    DECLINES(YIKES_LENGTH, yikes_open(BOOK, 1, all, 2, shares, 6, 0, OUT, SECOND));
+    DECLINES(YIKES_LENGTH, yikes_open(BOOK, 1, all, 3, shares, 6, 0, o.words, 1, SECOND));
+    DECLINES(YIKES_LENGTH, yikes_open(BOOK, 1, all, 3, shares, 6, 0, o.words, 3, SECOND));
+    DECLINES(YIKES_LENGTH, yikes_open(BOOK, 1, all, 3, shares, 6, 0, NULL, 0, SECOND));
+    DECLINES(YIKES_LENGTH, yikes_open(BOOK, 1, all, 3, shares, 6, 0, OUT, NULL, 0));
+    DECLINES(YIKES_LENGTH, yikes_open(BOOK, 1, all, 3, shares, 6, 0, OUT, o.second, 2));
+    DECLINES(YIKES_LENGTH, yikes_open(BOOK, 1, zeroth, 3, wide, 6, UINT64_MAX, OUT, o.second, HUGE_LENGTH));
+    DECLINES(YIKES_LENGTH, yikes_open(BOOK, 1, all, 3, NULL, 0, 0, OUT, SECOND));
+    DECLINES(YIKES_LENGTH, yikes_open(BOOK, 1, NULL, 0, shares, 6, 0, OUT, SECOND));
+    /* lengths that no object has: holders times d is 0, 2 or 6 modulo 2^64 */
+    DECLINES(YIKES_LENGTH, yikes_open(BOOK, 1, all, SIZE_MAX / 2 + 1, shares, 0, 0, OUT, SECOND));
+    DECLINES(YIKES_LENGTH, yikes_open(BOOK, 1, all, SIZE_MAX / 2 + 2, shares, 2, 0, OUT, SECOND));
+    DECLINES(YIKES_LENGTH, yikes_open(BOOK, 1, all, SIZE_MAX / 2 + 4, shares, 6, 0, OUT, SECOND));
+    DECLINES(YIKES_LENGTH, yikes_open(3, 4, 15, 1, all, SIZE_MAX / 4 + 1, shares, 0, 0, o.words, 4, SECOND));
+    DECLINES(YIKES_HOLDER, yikes_open(BOOK, 1, zeroth, 3, wide, 6, 0, OUT, SECOND));
+    DECLINES(YIKES_HOLDER, yikes_open(BOOK, 1, fourth, 3, shares, 6, 0, OUT, SECOND));
+    DECLINES(YIKES_HOLDER, yikes_open(BOOK, 1, twice, 3, shares, 6, 0, OUT, SECOND));
+    DECLINES(YIKES_HOLDER, yikes_open(BOOK, 1, falling, 3, shares, 6, 0, OUT, SECOND));
+    DECLINES(YIKES_HOLDER, yikes_open(BOOK, 1, far, 3, shares, 6, 0, OUT, SECOND));
+    DECLINES(YIKES_WIDE_WORD, yikes_open(BOOK, 1, all, 3, wide, 6, 1, OUT, SECOND));
+    DECLINES(YIKES_TOO_FEW_SHARES, yikes_open(BOOK, 1, all, 3, shares, 6, 1, OUT, SECOND));
+    DECLINES(YIKES_TOO_FEW_SHARES, yikes_open(BOOK, 1, all, 3, shares, 6, UINT64_MAX, OUT, SECOND));
+    DECLINES(YIKES_TOO_FEW_SHARES, yikes_open(BOOK, 1, all, 3, shares, 6, UINT64_C(1) << 63, OUT, SECOND));
+    DECLINES(YIKES_TOO_FEW_SHARES, yikes_open(BOOK, 1, NULL, 0, NULL, 0, 0, OUT, SECOND));
+    DECLINES(YIKES_NO_CODEWORD, yikes_open(BOOK, 1, all, 3, moved, 6, 0, OUT, SECOND));
+}
+
+/* The largest book: 63 shares of six words of 64 bits, 21 of them damaged. */
+static void largest(void) {
+    uint64_t job[6], coefficients[20 * 6], shares[63 * 6], holders[63], set = 0, x = 1;
+    size_t i;
+    for (i = 0; i < 6; i++) job[i] = x = x * UINT64_C(6364136223846793005) + 1442695040888963407u;
+    for (i = 0; i < COUNT(coefficients); i++) coefficients[i] = x = x * UINT64_C(6364136223846793005) + 1442695040888963407u;
+    check(yikes_deal(64, 6, 63, 20, job, 6, coefficients, COUNT(coefficients), shares, COUNT(shares)) == YIKES_OK, __LINE__, "deal");
+    for (i = 0; i < 63; i++) {
+        holders[i] = i + 1;
+        if (i % 3 == 1) {
+            shares[i * 6 + i % 6] ^= i % 2 == 0 ? UINT64_C(1) << 63 : i;
+            set |= UINT64_C(1) << i;
+        }
+    }
+    GIVES(yikes_open(64, 6, 63, 20, holders, 63, shares, COUNT(shares), 21, o.words, 6, SECOND), now_holds(job, 6, &set, 1));
+    DECLINES(YIKES_NO_CODEWORD, yikes_open(64, 6, 63, 20, holders, 63, shares, COUNT(shares), 20, o.words, 6, SECOND));
+    DECLINES(YIKES_TOO_FEW_SHARES, yikes_open(64, 6, 63, 20, holders, 63, shares, COUNT(shares), 22, o.words, 6, SECOND));
+}
+
+static void readings(void) {
+    const struct {
+        uint64_t k, w;
+        int64_t value;
+    } right[] = {{8, 127, 127},           {8, 128, -128},
+                 {8, 255, -1},            {1, 0, 0},
+                 {1, 1, -1},              {3, 5, -3},
+                 {64, 0, 0},              {64, INT64_MAX, INT64_MAX},
+                 {64, UINT64_MAX, -1},    {64, UINT64_C(1) << 63, INT64_MIN},
+                 {63, INT64_MAX, -1},     {63, UINT64_C(1) << 62, -(INT64_C(1) << 62)}};
+    size_t i;
+    for (i = 0; i < COUNT(right); i++) {
+        const uint64_t expected = (uint64_t)right[i].value;
+        GIVES(yikes_signed(right[i].k, right[i].w, SECOND), now_holds(NULL, 0, &expected, 1));
+    }
+    DECLINES(YIKES_PARAMETERS, yikes_signed(0, 0, SECOND));
+    DECLINES(YIKES_PARAMETERS, yikes_signed(65, 0, NULL, 0));
+    DECLINES(YIKES_PARAMETERS, yikes_signed(UINT64_MAX, UINT64_MAX, o.second, 2));
+    DECLINES(YIKES_LENGTH, yikes_signed(8, 256, NULL, 0));
+    DECLINES(YIKES_LENGTH, yikes_signed(8, 1, o.second, 2));
+    DECLINES(YIKES_LENGTH, yikes_signed(8, 1, o.second, SIZE_MAX));
+    DECLINES(YIKES_WIDE_WORD, yikes_signed(8, 256, SECOND));
+    DECLINES(YIKES_WIDE_WORD, yikes_signed(63, UINT64_MAX, SECOND));
+}
+
+/* Paper 01's input of 256 bytes: jobs 10 and 11 of three holders, with t 0 and an allowance of 1. */
+#define FILE_BYTES 83
+static uint8_t files[3 * FILE_BYTES];
+static uint8_t bundle[256];
+static const uint64_t numbers[2] = {10, 11};
+static const uint64_t words[3][4] = {{5, 2, 5, 2}, {5, 2, 1, 2}, {1, 2, 7, 2}};
+
+static void writing(void) {
+    const uint8_t order[7] = {3, 0, 0, 0, 16, 0, 1};
+    const uint64_t level[2] = {10, 10}, falling[2] = {11, 10}, wide[4] = {5, 2, 8, 2};
+    static uint64_t many[1001], zeros[1001 * 2];
+    uint8_t pair[2 * FILE_BYTES];
+    size_t i;
+
+    check(YIKES_FILE_SIZE(2, 2) == FILE_BYTES, __LINE__, "YIKES_FILE_SIZE");
+    GIVES(yikes_write_order(1, o.bytes, 7), now_bytes(order, 7));
+    DECLINES(YIKES_LENGTH, yikes_write_order(1, o.bytes, 6));
+    DECLINES(YIKES_LENGTH, yikes_write_order(255, o.bytes, 8));
+    DECLINES(YIKES_LENGTH, yikes_write_order(0, NULL, 0));
+    DECLINES(YIKES_LENGTH, yikes_write_order(0, o.bytes, SIZE_MAX));
+
+    for (i = 0; i < 3; i++) {
+        check(yikes_write_file(BOOK, 0, i + 1, 7, numbers, 2, words[i], 4, files + i * FILE_BYTES, FILE_BYTES) == YIKES_OK, __LINE__, "write_file");
+    }
+    GIVES(yikes_write_file(BOOK, 0, 1, 7, numbers, 2, words[0], 4, o.bytes, FILE_BYTES), now_bytes(files, FILE_BYTES));
+    for (i = 0; i < COUNT(outside); i++) {
+        DECLINES(YIKES_PARAMETERS, yikes_write_file(outside[i].k, outside[i].d, outside[i].n, outside[i].t, 1, 7, numbers, 2, words[0], 4, o.bytes,
+                                                    FILE_BYTES));
+    }
+    for (i = 0; i < COUNT(many); i++) many[i] = i;
+    DECLINES(YIKES_PARAMETERS, yikes_write_file(BOOK, 0, 1, 7, many, 1001, zeros, 2002, o.bytes, YIKES_FILE_SIZE(2, 1001)));
+    DECLINES(YIKES_PARAMETERS, yikes_write_file(BOOK, 0, 1, 7, many, SIZE_MAX / 8, zeros, 2002, o.bytes, FILE_BYTES));
+    /* so many jobs that their words are 4 modulo 2^64 */
+    DECLINES(YIKES_PARAMETERS, yikes_write_file(BOOK, 0, 1, 7, numbers, SIZE_MAX / 2 + 3, words[0], 4, o.bytes, FILE_BYTES));
+    DECLINES(YIKES_LENGTH, yikes_write_file(BOOK, 0, 1, 7, numbers, 2, words[0], 3, o.bytes, FILE_BYTES));
+    DECLINES(YIKES_LENGTH, yikes_write_file(BOOK, 0, 1, 7, numbers, 2, words[0], HUGE_LENGTH, o.bytes, FILE_BYTES));
+    DECLINES(YIKES_LENGTH, yikes_write_file(BOOK, 0, 1, 7, numbers, 1, words[0], 4, o.bytes, FILE_BYTES));
+    DECLINES(YIKES_LENGTH, yikes_write_file(BOOK, 0, 1, 7, numbers, 2, words[0], 4, o.bytes, FILE_BYTES - 1));
+    DECLINES(YIKES_LENGTH, yikes_write_file(BOOK, 0, 1, 7, numbers, 2, words[0], 4, o.bytes, FILE_BYTES + 1));
+    DECLINES(YIKES_LENGTH, yikes_write_file(BOOK, 0, 1, 7, numbers, 2, NULL, 0, o.bytes, FILE_BYTES));
+    DECLINES(YIKES_LENGTH, yikes_write_file(BOOK, 0, 0, 7, numbers, 2, words[0], 4, NULL, 0));
+    DECLINES(YIKES_HOLDER, yikes_write_file(BOOK, 0, 0, 7, level, 2, wide, 4, o.bytes, FILE_BYTES));
+    DECLINES(YIKES_HOLDER, yikes_write_file(BOOK, 0, 4, 7, numbers, 2, words[0], 4, o.bytes, FILE_BYTES));
+    DECLINES(YIKES_HOLDER, yikes_write_file(BOOK, 0, SIZE_MAX, 7, numbers, 2, words[0], 4, o.bytes, FILE_BYTES));
+    DECLINES(YIKES_MALFORMED, yikes_write_file(BOOK, 0, 1, 7, level, 2, wide, 4, o.bytes, FILE_BYTES));
+    DECLINES(YIKES_MALFORMED, yikes_write_file(BOOK, 0, 1, 7, falling, 2, words[0], 4, o.bytes, FILE_BYTES));
+    DECLINES(YIKES_WIDE_WORD, yikes_write_file(BOOK, 0, 1, 7, numbers, 2, wide, 4, o.bytes, FILE_BYTES));
+    /* a file with no jobs is a file */
+    poison();
+    check(yikes_write_file(BOOK, 0, 1, UINT64_MAX, NULL, 0, NULL, 0, o.bytes, 23) == YIKES_OK, __LINE__, "a file with no jobs");
+
+    check(yikes_write_bundle(1, files, sizeof files, bundle, sizeof bundle) == YIKES_OK, __LINE__, "write_bundle");
+    check(memcmp(bundle, order, 7) == 0 && memcmp(bundle + 7, files, sizeof files) == 0, __LINE__, "bundle");
+    GIVES(yikes_write_bundle(1, files, sizeof files, o.bytes, sizeof bundle), now_bytes(bundle, sizeof bundle));
+    DECLINES(YIKES_LENGTH, yikes_write_bundle(1, files, sizeof files, o.bytes, sizeof bundle - 1));
+    DECLINES(YIKES_LENGTH, yikes_write_bundle(1, files, sizeof files, o.bytes, sizeof bundle + 1));
+    DECLINES(YIKES_LENGTH, yikes_write_bundle(1, files, sizeof files, NULL, 0));
+    DECLINES(YIKES_LENGTH, yikes_write_bundle(1, files, sizeof files, o.bytes, SIZE_MAX));
+    DECLINES(YIKES_MALFORMED, yikes_write_bundle(1, NULL, 0, o.bytes, 7));
+    DECLINES(YIKES_MALFORMED, yikes_write_bundle(1, NULL, 0, NULL, 0));
+    DECLINES(YIKES_MALFORMED, yikes_write_bundle(1, files, sizeof files - 1, o.bytes, sizeof bundle - 1));
+    memcpy(pair, files + FILE_BYTES, FILE_BYTES);
+    memcpy(pair + FILE_BYTES, files, FILE_BYTES);
+    DECLINES(YIKES_HOLDER, yikes_write_bundle(1, pair, sizeof pair, o.bytes, 7 + sizeof pair));
+    check(yikes_write_file(BOOK, 0, 3, 8, numbers, 2, words[2], 4, pair + FILE_BYTES, FILE_BYTES) == YIKES_OK, __LINE__, "write_file");
+    DECLINES(YIKES_MISMATCHED, yikes_write_bundle(1, pair, sizeof pair, o.bytes, 7 + sizeof pair));
+    pair[6] = 65;
+    DECLINES(YIKES_PARAMETERS, yikes_write_bundle(1, pair, sizeof pair, o.bytes, 0));
+}
+
+/* A bundle with one byte changed. */
+static uint8_t damaged[256];
+static const uint8_t *changed(size_t at, uint8_t value) {
+    memcpy(damaged, bundle, sizeof damaged);
+    damaged[at] = value;
+    return damaged;
+}
+
+/* Every call on a bundle declines with the bundle's own number first, whatever else is wrong. */
+static void refuses(uint8_t number, const uint8_t *bytes, size_t n) {
+    DECLINES(number, yikes_accept(bytes, n));
+    DECLINES(number, yikes_open_place(bytes, n, 0, OUT, SECOND));
+    DECLINES(number, yikes_open_place(bytes, n, SIZE_MAX, NULL, 0, NULL, 0));
+    DECLINES(number, yikes_open_place(bytes, n, 0, OUT, o.second, 2));
+    DECLINES(number, yikes_total(bytes, n, 1, 0, 2, OUT));
+    DECLINES(number, yikes_total(bytes, n, 0, 9, 8, NULL, 0));
+    DECLINES(number, yikes_open_run(bytes, n, 0, 1, OUT, SECOND));
+    DECLINES(number, yikes_open_run(bytes, n, SIZE_MAX, 0, NULL, 0, NULL, 0));
+    DECLINES(number, yikes_fetch_body(bytes, n, 1, 0, o.second, 2));
+    DECLINES(number, yikes_fetch_body(bytes, n, 0, SIZE_MAX, NULL, 0));
+    DECLINES(number, yikes_fetch_fault(bytes, n, 1, 0));
+    DECLINES(number, yikes_list_line(bytes, n, 0, o.bytes, YIKES_LINE, SECOND));
+    DECLINES(number, yikes_list_line(bytes, n, SIZE_MAX, NULL, 0, NULL, 0));
+}
+
+static void faults(void) {
+    size_t i;
+    refuses(YIKES_MALFORMED, NULL, 0);
+    refuses(YIKES_MALFORMED, bundle, 7);
+    for (i = 0; i < sizeof bundle; i += 3) {
+        if ((i - 7) % FILE_BYTES != 0) check(yikes_accept(bundle, i) == YIKES_MALFORMED, __LINE__, "a bundle that is cut");
+    }
+    refuses(YIKES_MALFORMED, bundle, 255);
+    refuses(YIKES_MALFORMED, changed(4, 1), 256);
+    refuses(YIKES_MALFORMED, changed(7, 20), 256);
+    refuses(YIKES_PARAMETERS, changed(13, 0), 256);
+    refuses(YIKES_PARAMETERS, changed(13, 65), 256);
+    refuses(YIKES_PARAMETERS, changed(15, 4), 256);
+    refuses(YIKES_PARAMETERS, changed(16, 3), 256);
+    refuses(YIKES_PARAMETERS, changed(27, 4), 256);
+    refuses(YIKES_HOLDER, changed(17, 0), 256);
+    refuses(YIKES_HOLDER, changed(17, 4), 256);
+    refuses(YIKES_HOLDER, changed(17 + FILE_BYTES, 1), 256);
+    refuses(YIKES_MISMATCHED, changed(18 + FILE_BYTES, 8), 256);
+    refuses(YIKES_MISMATCHED, changed(13 + FILE_BYTES, 4), 256);
+    refuses(YIKES_MALFORMED, changed(66, 10), 256);
+    refuses(YIKES_MISMATCHED, changed(36 + FILE_BYTES, 9), 256);
+}
+
+static void openings(void) {
+    const uint64_t job[2] = {5, 2}, third[1] = {4}, none[1] = {0}, total[2] = {2, 4}, zero[2] = {0, 0}, body[2] = {149, 24};
+    const size_t n = sizeof bundle;
+    uint8_t wide[256], few[256], shown[512];
+    uint64_t length = 0;
+
+    GIVES(yikes_accept(bundle, n), untouched());
+    GIVES(yikes_open_place(bundle, n, 0, OUT, SECOND), now_holds(job, 2, third, 1));
+    DECLINES(YIKES_NO_CODEWORD, yikes_open_place(bundle, n, 1, OUT, SECOND));
+    DECLINES(YIKES_OUT_OF_RANGE, yikes_open_place(bundle, n, 2, OUT, SECOND));
+    DECLINES(YIKES_OUT_OF_RANGE, yikes_open_place(bundle, n, SIZE_MAX, OUT, SECOND));
+    DECLINES(YIKES_LENGTH, yikes_open_place(bundle, n, 2, o.words, 1, SECOND));
+    DECLINES(YIKES_LENGTH, yikes_open_place(bundle, n, 2, NULL, 0, SECOND));
+    DECLINES(YIKES_LENGTH, yikes_open_place(bundle, n, 2, OUT, NULL, 0));
+    DECLINES(YIKES_LENGTH, yikes_open_place(bundle, n, 0, OUT, o.second, 2));
+    DECLINES(YIKES_LENGTH, yikes_open_place(bundle, n, 0, o.words, HUGE_LENGTH, o.second, HUGE_LENGTH));
+
+    GIVES(yikes_total(bundle, n, 1, 0, 2, OUT), now_holds(total, 2, NULL, 0));
+    GIVES(yikes_total(bundle, n, 3, 2, 2, OUT), now_holds(zero, 2, NULL, 0));
+    DECLINES(YIKES_HOLDER, yikes_total(bundle, n, 0, 9, 8, NULL, 0));
+    DECLINES(YIKES_HOLDER, yikes_total(bundle, n, 4, 0, 2, OUT));
+    DECLINES(YIKES_HOLDER, yikes_total(bundle, n, SIZE_MAX, 0, 2, OUT));
+    DECLINES(YIKES_LENGTH, yikes_total(bundle, n, 1, 2, 1, o.words, 3));
+    DECLINES(YIKES_LENGTH, yikes_total(bundle, n, 1, 2, 1, NULL, 0));
+    DECLINES(YIKES_OUT_OF_RANGE, yikes_total(bundle, n, 1, 2, 1, OUT));
+    DECLINES(YIKES_OUT_OF_RANGE, yikes_total(bundle, n, 1, 0, 3, OUT));
+    DECLINES(YIKES_OUT_OF_RANGE, yikes_total(bundle, n, 1, 0, SIZE_MAX, OUT));
+    DECLINES(YIKES_OUT_OF_RANGE, yikes_total(bundle, n, 1, SIZE_MAX, SIZE_MAX, OUT));
+
+    GIVES(yikes_open_run(bundle, n, 0, 1, OUT, SECOND), now_holds(job, 2, third, 1));
+    GIVES(yikes_open_run(bundle, n, 1, 1, OUT, SECOND), now_holds(zero, 2, none, 1));
+    DECLINES(YIKES_NO_CODEWORD, yikes_open_run(bundle, n, 0, 2, OUT, SECOND));
+    DECLINES(YIKES_LENGTH, yikes_open_run(bundle, n, 2, 1, o.words, 3, SECOND));
+    DECLINES(YIKES_LENGTH, yikes_open_run(bundle, n, 2, 1, OUT, NULL, 0));
+    DECLINES(YIKES_LENGTH, yikes_open_run(bundle, n, 0, 1, NULL, 0, SECOND));
+    DECLINES(YIKES_OUT_OF_RANGE, yikes_open_run(bundle, n, 2, 1, OUT, SECOND));
+    DECLINES(YIKES_OUT_OF_RANGE, yikes_open_run(bundle, n, 0, 3, OUT, SECOND));
+    DECLINES(YIKES_OUT_OF_RANGE, yikes_open_run(bundle, n, SIZE_MAX, SIZE_MAX, OUT, SECOND));
+
+    GIVES(yikes_fetch_body(bundle, n, 2, 1, o.second, 2), now_holds(NULL, 0, body, 2));
+    check(bundle[body[0]] == 11 && bundle[body[0] + 8] == 1 && bundle[body[0] + 16] == 2, __LINE__, "the body of job 11 of holder 2");
+    GIVES(yikes_fetch_fault(bundle, n, 2, 1), untouched());
+    DECLINES(YIKES_HOLDER, yikes_fetch_body(bundle, n, 4, 9, NULL, 0));
+    DECLINES(YIKES_HOLDER, yikes_fetch_body(bundle, n, 0, 0, o.second, 2));
+    DECLINES(YIKES_HOLDER, yikes_fetch_fault(bundle, n, 4, 9));
+    DECLINES(YIKES_LENGTH, yikes_fetch_body(bundle, n, 2, 9, NULL, 0));
+    DECLINES(YIKES_LENGTH, yikes_fetch_body(bundle, n, 2, 1, o.second, 1));
+    DECLINES(YIKES_LENGTH, yikes_fetch_body(bundle, n, 2, 1, o.second, HUGE_LENGTH));
+    DECLINES(YIKES_OUT_OF_RANGE, yikes_fetch_body(bundle, n, 2, 2, o.second, 2));
+    DECLINES(YIKES_OUT_OF_RANGE, yikes_fetch_body(bundle, n, 2, SIZE_MAX, o.second, 2));
+    DECLINES(YIKES_OUT_OF_RANGE, yikes_fetch_fault(bundle, n, 2, 2));
+
+    poison();
+    check(yikes_list_line(bundle, n, 0, o.bytes, YIKES_LINE, SECOND) == YIKES_OK, __LINE__, "list_line");
+    length = 15;
+    check(now_holds(NULL, 0, &length, 1) == 0 && now_bytes("10 open 3 -3,2\n", 15), __LINE__, "the line of job 10");
+    poison();
+    check(yikes_list_line(bundle, n, 1, o.bytes, sizeof o.bytes, SECOND) == YIKES_OK, __LINE__, "list_line");
+    length = 9;
+    check(now_holds(NULL, 0, &length, 1) == 0 && now_bytes("11 6 - -\n", 9), __LINE__, "the line of job 11");
+    DECLINES(YIKES_LENGTH, yikes_list_line(bundle, n, 2, o.bytes, YIKES_LINE - 1, SECOND));
+    DECLINES(YIKES_LENGTH, yikes_list_line(bundle, n, 2, NULL, 0, SECOND));
+    DECLINES(YIKES_LENGTH, yikes_list_line(bundle, n, 2, o.bytes, YIKES_LINE, NULL, 0));
+    DECLINES(YIKES_LENGTH, yikes_list_line(bundle, n, 0, o.bytes, YIKES_LINE, o.second, 2));
+    DECLINES(YIKES_OUT_OF_RANGE, yikes_list_line(bundle, n, 2, o.bytes, YIKES_LINE, SECOND));
+    DECLINES(YIKES_OUT_OF_RANGE, yikes_list_line(bundle, n, SIZE_MAX, o.bytes, YIKES_LINE, SECOND));
+
+    /* a wide word in job 11 of holder 1: counts where the job is used, and nowhere else */
+    memcpy(wide, bundle, n);
+    wide[74] = 8;
+    GIVES(yikes_accept(wide, n), untouched());
+    GIVES(yikes_open_place(wide, n, 0, OUT, SECOND), now_holds(job, 2, third, 1));
+    DECLINES(YIKES_WIDE_WORD, yikes_open_place(wide, n, 1, OUT, SECOND));
+    DECLINES(YIKES_WIDE_WORD, yikes_total(wide, n, 1, 0, 2, OUT));
+    DECLINES(YIKES_WIDE_WORD, yikes_open_run(wide, n, 1, 2, OUT, SECOND));
+    poison();
+    check(yikes_list_line(wide, n, 1, o.bytes, YIKES_LINE, SECOND) == YIKES_OK && memcmp(o.bytes, "11 3 - -\n", 9) == 0, __LINE__, "a wide word");
+
+    /* an allowance that the files are too few for */
+    memcpy(few, bundle, n);
+    few[6] = 2;
+    DECLINES(YIKES_TOO_FEW_SHARES, yikes_open_place(few, n, 0, OUT, SECOND));
+    DECLINES(YIKES_TOO_FEW_SHARES, yikes_open_run(few, n, 0, 0, OUT, SECOND));
+    memset(shown, 0, sizeof shown);
+    check(yikes_list_line(few, n, 0, shown, sizeof shown, &length, 1) == YIKES_OK && length == 9 && memcmp(shown, "10 5 - -\n", 10) == 0, __LINE__,
+          "too few files");
+}
+
+int main(void) {
+    elements();
+    sharing();
+    largest();
+    readings();
+    writing();
+    faults();
+    openings();
+    printf("%lu checks%s\n", checks, failures == 0 ? "" : ", of which some failed");
+    return failures == 0 ? 0 : 1;
+}
