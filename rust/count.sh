@@ -3,6 +3,8 @@
 # count.sh [TEXT]: only rows whose title contains the text. Each side runs all inputs of a row three times and once; the difference is
 # two runs without the start of the program.
 set -eu
+# valgrind counts a string instruction once a byte, so that clearing an array would count as thousands: let the C library do without them.
+export GLIBC_TUNABLES=glibc.cpu.x86_rep_stosb_threshold=100000000:glibc.cpu.x86_rep_movsb_threshold=100000000
 cd "$(dirname "$0")"
 cargo build --quiet --release --offline -p bench
 bench=${CARGO_TARGET_DIR:-target}/release/bench

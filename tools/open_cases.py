@@ -540,6 +540,20 @@ def long_inputs():
         case(name, data, lines if expect is None else expect)
         return len(data)
 
+    def slow(name, book, e, count):
+        """The decoder's longest way: in every job the shares that are read first are wrong, each in another bit."""
+        rng, jobs, lines, wrong = random.Random(name), [], [], range(1, e + 1)
+        for number in range(count):
+            words, shares = dealt(rng, book)
+            for holder, bit in zip(wrong, rng.sample(range(book.k), e)):
+                share, place = list(shares[holder]), rng.randrange(book.d)
+                share[place] ^= 1 << bit
+                shares[holder] = tuple(share)
+            jobs.append((number, shares))
+            lines.append(line(book, number, words, wrong))
+        case(name, bundle(e, book, range(1, book.n + 1), jobs), lines)
+
+    slow("long-different-bits", Book(64, 6, 63, 40), 11, 16)
     assert long("long-63-holders", Book(64, 6, 63, 20), 21, 63, 16) == 63952
     assert long("long-1000-jobs", Book(16, 2, 3, 1), 0, 2, 1000) == 60053
     assert long("long-longest-accepted", Book(32, 4, 15, 2), 2, 7, 203) == 65534

@@ -4,7 +4,7 @@
 Without arguments this is the program `open`: a bundle on standard input, its listing on standard output.
 `--selftest` checks the paper's examples, and three ways of opening against each other.
 
-Opening goes another way than the rise through k levels with a key equation at each:
+Opening goes other ways than the library's Newton interpolation and key equation:
   open_by_definition  tries every polynomial (tiny books);
   open_by_subsets     lays a curve through every t + 1 shares, over the ring, and counts who differs (few subsets);
   open_by_jumps       lays one curve, jumps to the lowest bit at which a share leaves it, and decodes there with Gao.

@@ -1,38 +1,8 @@
-//! The library's functions on slices. This is the only place that calls foreign code.
+//! The library's functions on slices, as the header has them: numbers as they are, and outputs of any length. The safe wrapper gives its own outputs their
+//! right lengths, so that comparing through it would leave the wrong ones untried.
 
 use second::Params;
-
-/// A lent slice is a pointer and a length in items.
-type In<T> = *const T;
-type Out<T> = *mut T;
-
-#[rustfmt::skip]
-extern "C" {
-    fn yikes_deal(k: u64, d: usize, n: usize, t: usize, job: In<u64>, job_len: usize, coefficients: In<u64>, coefficients_len: usize,
-        out: Out<u64>, out_len: usize) -> u8;
-    fn yikes_open(k: u64, d: usize, n: usize, t: usize, holders: In<u64>, holders_len: usize, shares: In<u64>, shares_len: usize,
-        e: u64, out: Out<u64>, out_len: usize, wrong: Out<u64>, wrong_len: usize) -> u8;
-    fn yikes_add(k: u64, d: usize, n: usize, t: usize, a: In<u64>, a_len: usize, b: In<u64>, b_len: usize,
-        out: Out<u64>, out_len: usize) -> u8;
-    fn yikes_scale(k: u64, d: usize, n: usize, t: usize, a: In<u64>, a_len: usize, b: In<u64>, b_len: usize,
-        out: Out<u64>, out_len: usize) -> u8;
-    fn yikes_invert(k: u64, d: usize, n: usize, t: usize, a: In<u64>, a_len: usize, out: Out<u64>, out_len: usize) -> u8;
-    fn yikes_write_file(k: u64, d: usize, n: usize, t: usize, holder: usize, archive: u64, numbers: In<u64>, numbers_len: usize,
-        words: In<u64>, words_len: usize, out: Out<u8>, out_len: usize) -> u8;
-    fn yikes_write_order(e: u8, out: Out<u8>, out_len: usize) -> u8;
-    fn yikes_write_bundle(e: u8, files: In<u8>, files_len: usize, out: Out<u8>, out_len: usize) -> u8;
-    fn yikes_accept(bundle: In<u8>, bundle_len: usize) -> u8;
-    fn yikes_open_place(bundle: In<u8>, bundle_len: usize, place: usize, out: Out<u64>, out_len: usize,
-        wrong: Out<u64>, wrong_len: usize) -> u8;
-    fn yikes_total(bundle: In<u8>, bundle_len: usize, holder: usize, a: usize, b: usize, out: Out<u64>, out_len: usize) -> u8;
-    fn yikes_open_run(bundle: In<u8>, bundle_len: usize, a: usize, b: usize, out: Out<u64>, out_len: usize,
-        wrong: Out<u64>, wrong_len: usize) -> u8;
-    fn yikes_fetch_body(bundle: In<u8>, bundle_len: usize, holder: usize, place: usize, part: Out<u64>, part_len: usize) -> u8;
-    fn yikes_fetch_fault(bundle: In<u8>, bundle_len: usize, holder: usize, place: usize) -> u8;
-    fn yikes_list_line(bundle: In<u8>, bundle_len: usize, place: usize, line: Out<u8>, line_len: usize,
-        length: Out<u64>, length_len: usize) -> u8;
-    fn yikes_signed(k: u64, w: u64, out: Out<u64>, out_len: usize) -> u8;
-}
+use yikescanvas::ffi::*;
 
 // SAFETY, of every call below: each pointer comes with the length of the slice that it is of, and the library keeps none of them.
 

@@ -1,12 +1,18 @@
 //! Calls on a bundle. Each reads it all first; after that every record stands at a computed position.
 
 use crate::decode::Shares;
-use crate::ring::{Element, Ring};
+use crate::ring::{add, mask, Element};
 use crate::{demand, open_shares, Params, Refusal};
+use std::array::from_fn;
 use std::ops::Range;
+use std::slice::ChunksExact;
 
 const ORDER_SIZE: usize = 7;
 const HEADING_SIZE: usize = 23;
+
+const fn job_size(d: usize) -> usize {
+    14 + 8 * d
+}
 
 #[derive(Clone, Copy, PartialEq, Eq)]
 struct Heading {
@@ -29,7 +35,7 @@ fn prefix(length: usize, kind: u8) -> [u8; 6] {
 fn read_heading(bytes: &[u8], at: usize, last: usize) -> Result<(Heading, usize), Refusal> {
     let record = bytes.get(at..at + HEADING_SIZE).ok_or(Refusal::Malformed)?;
     demand(record[..6] == prefix(19, 1), Refusal::Malformed)?;
-    let [k, d, n, t, holder] = std::array::from_fn(|i| usize::from(record[6 + i]));
+    let [k, d, n, t, holder] = from_fn(|i| usize::from(record[6 + i]));
     let jobs = u32::from_le_bytes(record[19..23].try_into().expect("4 bytes")) as usize;
     let heading = Heading { params: Params { k: k as u64, d, n, t }, archive: word(&record[11..19]), jobs };
     heading.params.check()?;
@@ -38,29 +44,28 @@ fn read_heading(bytes: &[u8], at: usize, last: usize) -> Result<(Heading, usize)
     Ok((heading, holder))
 }
 
-/// The first fault among the job records from `at` on, where the first file has them from `first` on.
-fn check_jobs(bytes: &[u8], heading: &Heading, first: usize, at: usize) -> Result<(), Refusal> {
-    let size = heading.job_size();
-    let expected = prefix(size - 4, 2);
-    let mut last = None;
-    for place in 0..heading.jobs {
-        let here = at + place * size;
-        let record = bytes.get(here..here + size).ok_or(Refusal::Malformed)?;
-        let number = word(&record[6..14]);
-        demand(record[..6] == expected && last < Some(number), Refusal::Malformed)?;
-        demand(bytes[first + place * size + 6..][..8] == record[6..14], Refusal::Mismatched)?;
-        last = Some(number);
-    }
-    Ok(())
-}
-
 impl Heading {
-    fn job_size(&self) -> usize {
-        14 + 8 * self.params.d
+    fn file_size(&self) -> usize {
+        HEADING_SIZE + self.jobs * job_size(self.params.d)
     }
 
-    fn file_size(&self) -> usize {
-        HEADING_SIZE + self.jobs * self.job_size()
+    /// The job records of the file at `at`, as many as are there.
+    fn records<'a, const D: usize>(&self, bytes: &'a [u8], at: usize) -> ChunksExact<'a, u8> {
+        let end = bytes.len().min(at + self.file_size());
+        bytes[at + HEADING_SIZE..end].chunks_exact(job_size(D))
+    }
+
+    /// The first fault among the job records of the file at `at`.
+    fn check_jobs<const D: usize>(&self, bytes: &[u8], at: usize) -> Result<(), Refusal> {
+        let expected = prefix(job_size(D) - 4, 2);
+        let mut last = None;
+        for (record, first) in self.records::<D>(bytes, at).zip(self.records::<D>(bytes, ORDER_SIZE)) {
+            let number = word(&record[6..14]);
+            demand(record[..6] == expected && last < Some(number), Refusal::Malformed)?;
+            demand(first[6..14] == record[6..14], Refusal::Mismatched)?;
+            last = Some(number);
+        }
+        demand(bytes.len() - at >= self.file_size(), Refusal::Malformed)
     }
 }
 
@@ -74,57 +79,59 @@ struct Bundle<'a> {
 impl<'a> Bundle<'a> {
     fn read(bytes: &'a [u8]) -> Result<Bundle<'a>, Refusal> {
         demand(bytes.len() >= ORDER_SIZE && bytes[..6] == prefix(3, 16), Refusal::Malformed)?;
-        let (first, mut last) = read_heading(bytes, ORDER_SIZE, 0)?;
-        check_jobs(bytes, &first, ORDER_SIZE + HEADING_SIZE, ORDER_SIZE + HEADING_SIZE)?;
-        let mut at = ORDER_SIZE + first.file_size();
-        let mut files = 1;
-        while at < bytes.len() {
-            let (heading, holder) = read_heading(bytes, at, last)?;
-            demand(heading == first, Refusal::Mismatched)?;
-            check_jobs(bytes, &first, ORDER_SIZE + HEADING_SIZE, at + HEADING_SIZE)?;
-            last = holder;
-            at += first.file_size();
-            files += 1;
-        }
+        let (first, last) = read_heading(bytes, ORDER_SIZE, 0)?;
+        let files = for_d!(first.params.d, Bundle::check_files::<D>(bytes, &first, last))?;
         Ok(Bundle { bytes, heading: first, files })
     }
 
-    fn holder(&self, file: usize) -> u64 {
-        self.bytes[ORDER_SIZE + file * self.heading.file_size() + 10].into()
+    /// How many files there are, if there is no fault after the first heading.
+    fn check_files<const D: usize>(bytes: &[u8], first: &Heading, mut last: usize) -> Result<usize, Refusal> {
+        first.check_jobs::<D>(bytes, ORDER_SIZE)?;
+        let mut files = 1;
+        for at in (ORDER_SIZE..bytes.len()).step_by(first.file_size()).skip(1) {
+            let (heading, holder) = read_heading(bytes, at, last)?;
+            demand(heading == *first, Refusal::Mismatched)?;
+            first.check_jobs::<D>(bytes, at)?;
+            last = holder;
+            files += 1;
+        }
+        Ok(files)
     }
 
-    /// The bytes of a job's words.
-    fn words(&self, file: usize, place: usize) -> &[u8] {
-        let start = ORDER_SIZE + file * self.heading.file_size() + HEADING_SIZE + place * self.heading.job_size() + 14;
-        &self.bytes[start..start + 8 * self.heading.params.d]
+    fn start(&self, file: usize) -> usize {
+        ORDER_SIZE + file * self.heading.file_size()
+    }
+
+    fn holder(&self, file: usize) -> u64 {
+        self.bytes[self.start(file) + 10].into()
     }
 
     /// The sum of a file's jobs at the places of a run, if their words are in width.
-    fn total(&self, ring: &Ring, file: usize, run: Range<usize>) -> Result<Element, Refusal> {
-        let mut sum = Element::default();
+    fn total<const D: usize>(&self, file: usize, run: Range<usize>) -> Result<Element<D>, Refusal> {
+        let mut sum = [0; D];
         let mut seen = 0;
-        for place in run {
-            for (s, bytes) in sum.iter_mut().zip(self.words(file, place).chunks_exact(8)) {
-                let w = word(bytes);
-                seen |= w;
-                *s = s.wrapping_add(w);
-            }
+        let jobs = &self.bytes[self.start(file) + HEADING_SIZE..];
+        for record in jobs[run.start * job_size(D)..run.end * job_size(D)].chunks_exact(job_size(D)) {
+            let words: Element<D> = from_fn(|j| word(&record[14 + 8 * j..22 + 8 * j]));
+            seen = words.iter().fold(seen, |seen, w| seen | w);
+            sum = add(sum, words);
         }
-        demand(ring.in_width(&[seen]), Refusal::WideWord)?;
-        Ok(ring.reduce(sum))
+        let mask = mask(self.heading.params.k);
+        demand(seen & !mask == 0, Refusal::WideWord)?;
+        Ok(sum.map(|w| w & mask))
     }
 
-    fn ring(&self) -> Ring {
-        Ring::new(self.heading.params.k, self.heading.params.d)
+    fn write_total<const D: usize>(&self, file: usize, run: Range<usize>, out: &mut [u64]) -> Result<(), Refusal> {
+        out.copy_from_slice(&self.total::<D>(file, run)?);
+        Ok(())
     }
 
-    fn open(&self, run: Range<usize>, out: &mut [u64], wrong: &mut [u64]) -> Result<(), Refusal> {
-        let ring = self.ring();
-        let mut shares = Shares::default();
+    fn open<const D: usize, const N: usize>(&self, run: Range<usize>, out: &mut [u64], wrong: &mut [u64]) -> Result<(), Refusal> {
+        let mut shares = Shares::<D, N>::new();
         for file in 0..self.files {
-            shares.push(self.holder(file), self.total(&ring, file, run.clone())?);
+            shares.push(self.holder(file), self.total(file, run.clone())?);
         }
-        open_shares(&ring, self.heading.params.t, &mut shares, self.bytes[6].into(), out, wrong)
+        open_shares(self.heading.params, shares, self.bytes[6].into(), out, wrong)
     }
 
     fn lengths(&self, out: &[u64], wrong: &[u64]) -> Result<(), Refusal> {
@@ -140,14 +147,14 @@ pub fn open_place(bytes: &[u8], place: usize, out: &mut [u64], wrong: &mut [u64]
     let bundle = Bundle::read(bytes)?;
     bundle.lengths(out, wrong)?;
     demand(place < bundle.heading.jobs, Refusal::OutOfRange)?;
-    bundle.open(place..place + 1, out, wrong)
+    for_d!(bundle.heading.params.d, bundle.open::<D, { 1 << D }>(place..place + 1, out, wrong))
 }
 
 pub fn open_run(bytes: &[u8], a: usize, b: usize, out: &mut [u64], wrong: &mut [u64]) -> Result<(), Refusal> {
     let bundle = Bundle::read(bytes)?;
     bundle.lengths(out, wrong)?;
     demand(a <= b && b <= bundle.heading.jobs, Refusal::OutOfRange)?;
-    bundle.open(a..b, out, wrong)
+    for_d!(bundle.heading.params.d, bundle.open::<D, { 1 << D }>(a..b, out, wrong))
 }
 
 pub fn total(bytes: &[u8], holder: usize, a: usize, b: usize, out: &mut [u64]) -> Result<(), Refusal> {
@@ -155,7 +162,5 @@ pub fn total(bytes: &[u8], holder: usize, a: usize, b: usize, out: &mut [u64]) -
     let file = (0..bundle.files).find(|f| bundle.holder(*f) == holder as u64).ok_or(Refusal::Holder)?;
     demand(out.len() == bundle.heading.params.d, Refusal::Length)?;
     demand(a <= b && b <= bundle.heading.jobs, Refusal::OutOfRange)?;
-    let sum = bundle.total(&bundle.ring(), file, a..b)?;
-    out.copy_from_slice(&sum[..out.len()]);
-    Ok(())
+    for_d!(bundle.heading.params.d, bundle.write_total::<D>(file, a..b, out))
 }

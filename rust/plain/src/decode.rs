@@ -1,34 +1,32 @@
-//! The decoder. It interpolates over the ring through the first t + 1 shares and compares all. If too many differ, one field decoding
-//! at the lowest bit at which any differs names shares that every codeword differs from; they are dropped, and it goes on.
+//! The decoder. It interpolates over the ring through the first t + 1 shares and compares the others. If too many differ, one field
+//! decoding at the lowest bit at which any differs names shares that every codeword differs from; they are dropped, and it goes on.
 
-use crate::field::{Slice, Sliced};
-use crate::ring::{add, sub, Element, Ring};
+use crate::field::{differing, Slice};
+use crate::ring::{add, eval, integer, inverse, mask, mul, mul_by_point, sub, Element};
 
-/// The shares still in.
-pub struct Shares {
+/// The shares still in: there are fewer than N = 2^D.
+pub struct Shares<const D: usize, const N: usize> {
     count: usize,
-    holders: [u64; 63],
-    words: [Element; 63],
+    holders: [u64; N],
+    words: [Element<D>; N],
 }
 
-impl Default for Shares {
-    fn default() -> Shares {
-        Shares { count: 0, holders: [0; 63], words: [[0; 6]; 63] }
+impl<const D: usize, const N: usize> Shares<D, N> {
+    pub fn new() -> Shares<D, N> {
+        Shares { count: 0, holders: [0; N], words: [[0; D]; N] }
     }
-}
 
-impl Shares {
     pub fn len(&self) -> usize {
         self.count
     }
 
-    pub fn push(&mut self, holder: u64, words: Element) {
+    pub fn push(&mut self, holder: u64, words: Element<D>) {
         self.holders[self.count] = holder;
         self.words[self.count] = words;
         self.count += 1;
     }
 
-    fn iter(&self) -> impl Iterator<Item = (u64, Element)> + '_ {
+    fn iter(&self) -> impl Iterator<Item = (u64, Element<D>)> + '_ {
         self.holders.iter().copied().zip(self.words.iter().copied()).take(self.count)
     }
 
@@ -49,8 +47,8 @@ impl Shares {
     }
 
     /// Lane i is the point of share i's holder.
-    fn points(&self) -> Slice {
-        let mut points = Slice::default();
+    fn points(&self) -> Slice<D> {
+        let mut points = [0; D];
         for (i, (holder, _)) in self.iter().enumerate() {
             for (j, word) in points.iter_mut().enumerate() {
                 *word |= (holder >> j & 1) << i;
@@ -61,35 +59,36 @@ impl Shares {
 }
 
 /// What a polynomial leaves of each share, the lanes at which that is not zero, and all its words together.
-struct Left {
-    words: [Element; 63],
+struct Left<const D: usize, const N: usize> {
+    words: [Element<D>; N],
     lanes: u64,
     bits: u64,
 }
 
 /// Newton's interpolation through the first t + 1 shares.
-fn interpolate(ring: &Ring, t: usize, shares: &Shares) -> [Element; 64] {
-    let (mut q, mut nodal) = ([Element::default(); 64], [Element::default(); 64]);
-    nodal[0][0] = 1;
+fn interpolate<const D: usize, const N: usize>(k: u64, t: usize, shares: &Shares<D, N>) -> [Element<D>; N] {
+    let (mut q, mut nodal) = ([[0; D]; N], [[0; D]; N]);
+    nodal[0] = integer(1);
     for (len, (x, y)) in shares.iter().take(t + 1).enumerate() {
-        let gap = sub(y, ring.eval(&q[..len], x));
-        let c = ring.mul(gap, ring.inverse(ring.eval(&nodal[..=len], x)));
+        let gap = sub(y, eval(&q[..len], x));
+        let c = mul(gap, inverse(k, eval(&nodal[..=len], x)));
         for (a, b) in q[..=len].iter_mut().zip(&nodal) {
-            *a = add(*a, ring.mul(c, *b));
+            *a = add(*a, mul(c, *b));
         }
-        let mut below = Element::default();
+        let mut below = [0; D];
         for a in &mut nodal[..=len + 1] {
-            let times = ring.mul_by_point(*a, x);
+            let times = mul_by_point(*a, x);
             (below, *a) = (*a, sub(below, times));
         }
     }
     q
 }
 
-fn compare(ring: &Ring, p: &[Element], shares: &Shares) -> Left {
-    let mut left = Left { words: [[0; 6]; 63], lanes: 0, bits: 0 };
-    for (i, (x, y)) in shares.iter().enumerate() {
-        let words = ring.reduce(sub(y, ring.eval(p, x)));
+/// The polynomial goes through the first t + 1 shares, so nothing is left of them.
+fn compare<const D: usize, const N: usize>(k: u64, t: usize, p: &[Element<D>], shares: &Shares<D, N>) -> Left<D, N> {
+    let mut left = Left { words: [[0; D]; N], lanes: 0, bits: 0 };
+    for (i, (x, y)) in shares.iter().enumerate().skip(t + 1) {
+        let words = sub(y, eval(p, x)).map(|w| w & mask(k));
         let bits = words.iter().fold(0, |bits, w| bits | w);
         left.words[i] = words;
         left.lanes |= u64::from(bits != 0) << i;
@@ -99,8 +98,8 @@ fn compare(ring: &Ring, p: &[Element], shares: &Shares) -> Left {
 }
 
 /// Lane i is bit v of the words of row i.
-fn slice(rows: &[Element], v: u32) -> Slice {
-    let mut slice = Slice::default();
+fn slice<const D: usize>(rows: &[Element<D>], v: u32) -> Slice<D> {
+    let mut slice = [0; D];
     for (i, row) in rows.iter().enumerate() {
         for (word, w) in slice.iter_mut().zip(row) {
             *word |= (w >> v & 1) << i;
@@ -109,18 +108,17 @@ fn slice(rows: &[Element], v: u32) -> Slice {
     slice
 }
 
-/// The free term of the codeword and the set of wrong holders. There are at least t + 1 + 2 e shares.
-pub fn decode(ring: &Ring, t: usize, shares: &mut Shares, e: u32) -> Option<(Element, u64)> {
-    let field = Sliced::new(ring.d);
+/// The free term of the codeword, not cut to k bits, and the set of wrong holders. There are at least t + 1 + 2 e shares.
+pub fn decode<const D: usize, const N: usize>(k: u64, t: usize, shares: &mut Shares<D, N>, e: u32) -> Option<(Element<D>, u64)> {
     let (mut bound, mut wrong) = (e, 0);
     loop {
-        let q = interpolate(ring, t, shares);
-        let left = compare(ring, &q[..=t], shares);
+        let q = interpolate(k, t, shares);
+        let left = compare(k, t, &q[..=t], shares);
         if left.lanes.count_ones() <= bound {
             return Some((q[0], wrong | shares.drop_lanes(left.lanes)));
         }
         let values = slice(&left.words[..shares.len()], left.bits.trailing_zeros());
-        let lanes = field.differing(t, shares.len(), shares.points(), values)?;
+        let lanes = differing(t, shares.len(), shares.points(), values)?;
         bound = bound.checked_sub(lanes.count_ones())?;
         wrong |= shares.drop_lanes(lanes);
     }

@@ -1,5 +1,23 @@
-//! The library's job with the library's own algorithm in plain Rust, for the benchmark: k and d are known at run time only; no unsafe
-//! code, no vector instructions by hand. Parameters and refusals are those of `second`, and nothing else of it is used.
+//! The library's job with the library's own algorithm in plain Rust, for the benchmark: k and d are known at run time only, and each call
+//! has code for each d, among which it chooses once; no unsafe code, no vector instructions by hand. Parameters and refusals are those of
+//! `second`, and nothing else of it is used.
+
+/// The expression for this d, from 2 to 6, with the constant D in it, so that there is code for each.
+macro_rules! for_d {
+    ($d:expr, $value:expr) => {
+        match $d {
+            2 => for_d!(const 2, $value),
+            3 => for_d!(const 3, $value),
+            4 => for_d!(const 4, $value),
+            5 => for_d!(const 5, $value),
+            _ => for_d!(const 6, $value),
+        }
+    };
+    (const $d:literal, $value:expr) => {{
+        const D: usize = $d;
+        $value
+    }};
+}
 
 mod bundle;
 mod decode;
@@ -10,7 +28,7 @@ pub use bundle::{accept, open_place, open_run, total};
 pub use second::{Params, Refusal};
 
 use decode::{decode, Shares};
-use ring::{Element, Ring};
+use ring::{add, eval, mask, mul_by_point};
 
 pub(crate) fn demand(fact: bool, otherwise: Refusal) -> Result<(), Refusal> {
     if fact {
@@ -20,22 +38,25 @@ pub(crate) fn demand(fact: bool, otherwise: Refusal) -> Result<(), Refusal> {
     }
 }
 
+fn in_width(k: u64, words: &[u64]) -> bool {
+    words.iter().fold(0, |seen, w| seen | w) & !mask(k) == 0
+}
+
 /// The shares of holders 1 to n: values of one polynomial, each by Horner's rule.
 pub fn deal(p: Params, job: &[u64], coefficients: &[u64], out: &mut [u64]) -> Result<(), Refusal> {
     p.check()?;
     demand(job.len() == p.d && coefficients.len() == p.t * p.d && out.len() == p.n * p.d, Refusal::Length)?;
-    let ring = Ring::new(p.k, p.d);
-    demand(ring.in_width(job) && ring.in_width(coefficients), Refusal::WideWord)?;
-    let mut polynomial = [Element::default(); 64];
-    polynomial[0] = ring::load(job);
-    for (row, words) in polynomial[1..].iter_mut().zip(coefficients.chunks_exact(p.d)) {
-        *row = ring::load(words);
-    }
-    for (i, share) in out.chunks_exact_mut(p.d).enumerate() {
-        let value = ring.eval(&polynomial[..=p.t], i as u64 + 1);
-        share.copy_from_slice(&ring.reduce(value)[..p.d]);
-    }
+    demand(in_width(p.k, job) && in_width(p.k, coefficients), Refusal::WideWord)?;
+    for_d!(p.d, write_shares::<D>(p.k, job, coefficients, out));
     Ok(())
+}
+
+fn write_shares<const D: usize>(k: u64, job: &[u64], coefficients: &[u64], out: &mut [u64]) {
+    let (free, rest) = (job.as_chunks::<D>().0[0], coefficients.as_chunks::<D>().0);
+    for (x, share) in (1..).zip(out.as_chunks_mut::<D>().0) {
+        let value = add(mul_by_point(eval(rest, x), x), free);
+        *share = value.map(|w| w & mask(k));
+    }
 }
 
 /// Opens lent shares: the job's words, and the set of wrong holders.
@@ -47,19 +68,35 @@ pub fn open(p: Params, holders: &[u64], words: &[u64], e: u64, out: &mut [u64], 
         demand(last < h && h <= p.n as u64, Refusal::Holder)?;
         last = h;
     }
-    let ring = Ring::new(p.k, p.d);
-    demand(ring.in_width(words), Refusal::WideWord)?;
-    let mut shares = Shares::default();
-    for (&h, words) in holders.iter().zip(words.chunks_exact(p.d)) {
-        shares.push(h, ring::load(words));
-    }
-    open_shares(&ring, p.t, &mut shares, e, out, wrong)
+    demand(in_width(p.k, words), Refusal::WideWord)?;
+    for_d!(p.d, open_lent::<D, { 1 << D }>(p, holders, words, e, out, wrong))
 }
 
-pub(crate) fn open_shares(ring: &Ring, t: usize, shares: &mut Shares, e: u64, out: &mut [u64], wrong: &mut [u64]) -> Result<(), Refusal> {
-    demand(shares.len() > t && e <= ((shares.len() - t - 1) / 2) as u64, Refusal::TooFewShares)?;
-    let (secret, set) = decode(ring, t, shares, e as u32).ok_or(Refusal::NoCodeword)?;
-    out.copy_from_slice(&ring.reduce(secret)[..out.len()]);
+fn open_lent<const D: usize, const N: usize>(
+    p: Params,
+    holders: &[u64],
+    words: &[u64],
+    e: u64,
+    out: &mut [u64],
+    wrong: &mut [u64],
+) -> Result<(), Refusal> {
+    let mut shares = Shares::<D, N>::new();
+    for (&h, words) in holders.iter().zip(words.as_chunks::<D>().0) {
+        shares.push(h, *words);
+    }
+    open_shares(p, shares, e, out, wrong)
+}
+
+pub(crate) fn open_shares<const D: usize, const N: usize>(
+    p: Params,
+    mut shares: Shares<D, N>,
+    e: u64,
+    out: &mut [u64],
+    wrong: &mut [u64],
+) -> Result<(), Refusal> {
+    demand(shares.len() > p.t && e <= ((shares.len() - p.t - 1) / 2) as u64, Refusal::TooFewShares)?;
+    let (secret, set) = decode(p.k, p.t, &mut shares, e as u32).ok_or(Refusal::NoCodeword)?;
+    out.copy_from_slice(&secret.map(|w| w & mask(p.k)));
     wrong[0] = set;
     Ok(())
 }

@@ -1,109 +1,86 @@
-//! The Galois ring. Words are computed modulo 2^64, in all six places; `reduce` cuts them to k bits and d words at the end, which is
-//! right since nothing above bit k or place d ever comes down.
+//! The Galois ring, with d known to the compiler. Words are computed modulo 2^64 and cut to k bits at the end only, which is right since
+//! nothing above bit k ever comes down.
 
-pub type Element = [u64; 6];
+use std::array::from_fn;
 
-/// For each d, the lower coefficients of the modulus, as masks.
-const LOWER: [Element; 7] = {
-    let mut rows = [[!0, !0, 0, 0, 0, 0]; 7];
-    rows[5] = [!0, 0, !0, 0, 0, 0];
-    rows
-};
+pub type Element<const D: usize> = [u64; D];
 
-pub fn lower_of(d: usize) -> Element {
-    LOWER[d]
-}
-
-/// The element with these words, at most six.
-pub fn load(words: &[u64]) -> Element {
-    let mut a = Element::default();
-    a[..words.len()].copy_from_slice(words);
-    a
-}
-
-pub fn add(a: Element, b: Element) -> Element {
-    std::array::from_fn(|j| a[j].wrapping_add(b[j]))
-}
-
-pub fn sub(a: Element, b: Element) -> Element {
-    std::array::from_fn(|j| a[j].wrapping_sub(b[j]))
-}
-
-#[derive(Clone, Copy)]
-pub struct Ring {
-    pub d: usize,
-    bits: u64,
-    mask: u64,
-    low: Element,
-    live: Element,
-}
-
-impl Ring {
-    pub fn new(k: u64, d: usize) -> Ring {
-        let mask = !0 >> (64 - k);
-        let live = std::array::from_fn(|j| if j < d { mask } else { 0 });
-        Ring { d, bits: k, mask, low: lower_of(d), live }
+/// The modulus is X^D + X^m + 1 with this m.
+pub const fn middle(d: usize) -> usize {
+    if d == 5 {
+        2
+    } else {
+        1
     }
+}
 
-    pub fn in_width(&self, words: &[u64]) -> bool {
-        words.iter().all(|w| w & !self.mask == 0)
+/// The bits of a word.
+pub fn mask(k: u64) -> u64 {
+    !0 >> (64 - k)
+}
+
+/// The element of an integer.
+pub fn integer<const D: usize>(w: u64) -> Element<D> {
+    from_fn(|j| if j == 0 { w } else { 0 })
+}
+
+pub fn add<const D: usize>(a: Element<D>, b: Element<D>) -> Element<D> {
+    from_fn(|j| a[j].wrapping_add(b[j]))
+}
+
+pub fn sub<const D: usize>(a: Element<D>, b: Element<D>) -> Element<D> {
+    from_fn(|j| a[j].wrapping_sub(b[j]))
+}
+
+/// X times a.
+fn shift<const D: usize>(a: Element<D>) -> Element<D> {
+    let top = a[D - 1];
+    from_fn(|j| {
+        let below = if j == 0 { 0 } else { a[j - 1] };
+        below.wrapping_sub(if j == 0 || j == middle(D) { top } else { 0 })
+    })
+}
+
+/// Horner's rule over the words of a.
+pub fn mul<const D: usize>(a: Element<D>, b: Element<D>) -> Element<D> {
+    let mut r = b.map(|w| a[D - 1].wrapping_mul(w));
+    for c in a[..D - 1].iter().rev() {
+        r = add(shift(r), b.map(|w| c.wrapping_mul(w)));
     }
+    r
+}
 
-    pub fn reduce(&self, a: Element) -> Element {
-        std::array::from_fn(|j| a[j] & self.live[j])
-    }
-
-    /// X times a.
-    fn shift(&self, a: Element) -> Element {
-        let top = a[self.d - 1];
-        std::array::from_fn(|j| {
-            let below = if j == 0 { 0 } else { a[j - 1] };
-            below.wrapping_sub(top & self.low[j])
-        })
-    }
-
-    /// Horner's rule over the words of a.
-    pub fn mul(&self, a: Element, b: Element) -> Element {
-        let mut r = Element::default();
-        for j in (0..self.d).rev() {
-            let s = self.shift(r);
-            r = std::array::from_fn(|i| s[i].wrapping_add(a[j].wrapping_mul(b[i])));
+/// The point of holder x times a: the same over the bits of x, without products.
+pub fn mul_by_point<const D: usize>(a: Element<D>, x: u64) -> Element<D> {
+    let mut r = [0; D];
+    for j in (0..D).rev() {
+        r = shift(r);
+        if x >> j & 1 == 1 {
+            r = add(r, a);
         }
-        r
     }
+    r
+}
 
-    /// The point of holder x times a: the same with the bits of x from its highest one, so without products.
-    pub fn mul_by_point(&self, a: Element, x: u64) -> Element {
-        let mut r = a;
-        for j in (0..x.ilog2()).rev() {
-            r = self.shift(r);
-            if x >> j & 1 == 1 {
-                r = add(r, a);
-            }
-        }
-        r
-    }
+/// The value at holder x's point.
+pub fn eval<const D: usize>(p: &[Element<D>], x: u64) -> Element<D> {
+    let Some((last, rest)) = p.split_last() else {
+        return [0; D];
+    };
+    rest.iter().rev().fold(*last, |sum, c| add(mul_by_point(sum, x), *c))
+}
 
-    /// The value at holder x's point.
-    pub fn eval(&self, p: &[Element], x: u64) -> Element {
-        let Some((last, rest)) = p.split_last() else {
-            return Element::default();
-        };
-        rest.iter().rev().fold(*last, |sum, c| add(self.mul_by_point(sum, x), *c))
+/// The lowest k bits at least of the inverse of a unit: a^(2^D - 2) is one modulo 2, and each step of Newton's doubles the bits.
+pub fn inverse<const D: usize>(k: u64, a: Element<D>) -> Element<D> {
+    let mut y = mul(a, a);
+    for _ in 2..D {
+        let z = mul(y, a);
+        y = mul(z, z);
     }
-
-    /// The inverse of a unit: a^(2^d - 2) is one modulo 2, and each step of Newton's doubles the bits.
-    pub fn inverse(&self, a: Element) -> Element {
-        let mut y = load(&[1]);
-        for _ in 1..self.d {
-            let z = self.mul(y, a);
-            y = self.mul(z, z);
-        }
-        let mut bits = 1;
-        while bits < self.bits {
-            y = self.mul(y, sub(load(&[2]), self.mul(a, y)));
-            bits *= 2;
-        }
-        y
+    let mut bits = 1;
+    while bits < k {
+        y = mul(y, sub(integer(2), mul(a, y)));
+        bits *= 2;
     }
+    y
 }

@@ -14,7 +14,8 @@
 //! ```
 #![deny(missing_docs)]
 #[rustfmt::skip]
-mod ffi;
+#[doc(hidden)]
+pub mod ffi;
 
 use std::ops::Range;
 
