@@ -3,14 +3,7 @@
 # the tests of the Rust wrapper and its example against the stored output.
 set -u
 cd "$(dirname "$0")/.." || exit 2
-work=$(mktemp -d) || exit 2
-trap 'rm -rf "$work"' EXIT
-fail() {
-  echo "boundary: $1"
-  [ -z "${2:-}" ] || tail -n 20 "$2"
-  exit 1
-}
-
+name=boundary
 . tools/library.sh
 library=$YIKES_LIB_DIR/libboundary.a
 

@@ -2,13 +2,7 @@
 # The library beside the second implementation in rust/second: its own tests, then random openings and bundles.
 set -u
 cd "$(dirname "$0")/.." || exit 2
-work=$(mktemp -d) || exit 2
-trap 'rm -rf "$work"' EXIT
-fail() {
-  echo "compare: $1"
-  [ -z "${2:-}" ] || tail -n 20 "$2"
-  exit 1
-}
+name=compare
 . tools/library.sh
 
 cd rust || exit 2
