@@ -8,3 +8,4 @@ pub mod Names
 pub mod Opens
 pub mod Sums
 pub mod Totals
+pub mod Pass

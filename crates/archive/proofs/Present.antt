@@ -4,7 +4,6 @@ use mathlib.Core.Path.{_≡_, refl, sym, ap, _∙_}
 use mathlib.Core.Bool.{true}
 use mathlib.Core.List.{List, [], _∷_}
 use Prim.Native.Nat.{ℕ, zero, suc, _+_, _^_, _≤_, _<_}
-use native.Mathlib.Nat.{add-zero}
 use native.Mathlib.Omega.{arith}
 use lib.ListN.{length}
 use Rattle.words.specs.Word.{allInWidth}
@@ -94,10 +93,6 @@ pub of-width : (bs : List ℕ) (a n : ℕ) → ((f i : ℕ) → f < filesOf bs �
 of-width bs a n h =
     every-all (λ g. runInWidth bs g a n) (filesOf bs)
     (λ f l. every-all (λ j. allInWidth (paramsOf bs .k) (wordsOf bs f (a + j))) n (λ i u. h f i l u))
-
-pub place-element : (bs : List ℕ) (p f : ℕ) → filesInWidth bs p 1 ≡ true → f < filesOf bs →
-    IsElement (paramsOf bs .k) (paramsOf bs .d) (wordsOf bs f p)
-place-element bs p f e l = rw add-zero at (width-of bs p 1 f 0 e l (omega arith))
 
 -- a sum of elements is an element, whatever their words are
 pub sum-element : (k d : ℕ) (a b : Element) → length a ≡ d → length b ≡ d → IsElement k d (sum k a b)

@@ -56,6 +56,12 @@ zero-right k (x ∷ a) h =
 pub sum-zero : (k d : ℕ) (a : Element) → IsElement k d a → sum k a (zeroE d) ≡ a
 sum-zero k d a h = ap (λ (n : ℕ). sum k a (zeroE n)) (sym (h .0)) ∙ zero-right k a (h .1)
 
+zero-left : (k : ℕ) (a : Element) → allInWidth k a ≡ true → sum k (zeroE (length a)) a ≡ a
+unfolding zip addW allInWidth
+zero-left k [] h = refl
+zero-left k (x ∷ a) h =
+    ap₂ _∷_ (rw zero-add (mod-eq-of-lt (in-width-lt k x (and-left (inWidth k x) _ h)))) (zero-left k a (and-right (inWidth k x) _ h))
+
 zip-at : (f : ℕ → ℕ → ℕ) (a b : Element) (j : ℕ) → j < length a → length a ≡ length b → getD (zip f a b) j 0 ≡ f (getD a j 0) (getD b j 0)
 unfolding zip
 zip-at f [] b j h e = absurd (not-suc-le-zero h)
@@ -94,6 +100,11 @@ module _ (k d : ℕ) (s : ℕ → Element) where
   pub sum-none : sumTo k d s 0 ≡ zeroE d
   unfolding sumTo
   sum-none = refl
+
+  -- one element in width
+  pub sum-one : IsElement k d (s 0) → sumTo k d s 1 ≡ s 0
+  unfolding sumTo
+  sum-one h = ap (λ (n : ℕ). sum k (zeroE n) (s 0)) (sym (h .0)) ∙ zero-left k (s 0) (h .1)
 
   pub sum-split : (m n : ℕ) → ((i : ℕ) → i < m → length (s i) ≡ d) →
       sumTo k d s (m + n) ≡ sum k (sumTo k d s m) (sumTo k d (λ i. s (m + i)) n)

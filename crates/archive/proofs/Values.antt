@@ -1,16 +1,16 @@
 -- Lists of the values of a function, and tests that hold at the first n places. Assumes nothing.
 use mathlib.Core.Path.{_≡_, refl, sym, ap, ap₂, _∙_}
-use mathlib.Core.Bool.{Bool, true, false, _&&_}
+use mathlib.Core.Bool.{Bool, true, _&&_}
 use mathlib.Core.List.{List, [], _∷_, _++_}
 use Prim.Native.Nat.{ℕ, zero, suc, _+_, _≤_, _<_}
 use native.Mathlib.Nat.{not-suc-le-zero, zero-add}
 use native.Mathlib.Numerals.{add-one}
 use native.Mathlib.Decide.{decLe}
 use native.Mathlib.Omega.{arith}
-use lib.ListN.{length, getD, set, drop, replicate, length-replicate}
+use lib.ListN.{length, getD, set, drop}
 use lib.Seq.{paste, paste-zero}
 use Rattle.words.proofs.Fill.{fill-next, fill-within}
-use Rattle.words.proofs.Tests.{and-left, and-right, and-both, and-no, and-yes}
+use Rattle.words.proofs.Tests.{and-left, and-right, and-both}
 use Rattle.archive.specs.Archive.{valuesFrom, every}
 
 module _ {A : Type 0} where
@@ -55,23 +55,9 @@ module _ (t : ℕ → Bool) where
   unfolding every
   every-none = refl
 
-  pub every-next : (n : ℕ) → every t n ≡ true → t n ≡ true → every t (n + 1) ≡ true
+  pub every-more : (n : ℕ) → every t (n + 1) ≡ (every t n && t n)
   unfolding every
-  every-next n e h = rw add-one (and-both (every t n) (t n) e h)
-
-  -- one place where it fails
-  pub every-stop : (n i : ℕ) → i < n → t i ≡ false → every t n ≡ false
-  unfolding every
-  every-stop zero i h e = absurd (not-suc-le-zero h)
-  every-stop (suc n) i h e =
-      elim (decLe (suc i) n) [
-        | yes m ↦ and-no (every t n) (t n) (every-stop n i m e)
-        | no m ↦ (let z : i ≡ n = omega arith in last (every t n) (t n) (ap t (sym z) ∙ e))
-      ]
-    where
-      last : (a b : Bool) → b ≡ false → (a && b) ≡ false
-      last true b q = q
-      last false b q = refl
+  every-more n = rw add-one
 
 -- tests that agree
 pub every-same : (t u : ℕ → Bool) (n : ℕ) → ((i : ℕ) → i < n → t i ≡ u i) → every t n ≡ every u n
@@ -79,19 +65,17 @@ unfolding every
 every-same t u zero h = refl
 every-same t u (suc n) h = ap₂ _&&_ (every-same t u n (λ i l. h i (omega arith))) (h n (omega arith))
 
--- a loop that fills an array of some size, at place i: the first i of the n values stand in it
-module _ {A : Type 0} (f : ℕ → A) (n size : ℕ) (z : A) where
+-- a loop that fills an array, at place i: the first i of the n values stand in it
+module _ {A : Type 0} (f : ℕ → A) (n : ℕ) (old : List A) where
   abbrev pub filled : ℕ → List A
-  filled i = paste (replicate size z) 0 (valuesFrom f 0 n) i
+  filled i = paste old 0 (valuesFrom f 0 n) i
 
-  pub values-start : replicate size z ≡ filled 0
-  values-start = sym (paste-zero (replicate size z) 0 (valuesFrom f 0 n))
+  pub values-start : old ≡ filled 0
+  values-start = sym (paste-zero old 0 (valuesFrom f 0 n))
 
-  pub values-next : (x : List A) (i : ℕ) (v : A) → x ≡ filled i → i < n → n ≤ size → v ≡ f i → set x i v ≡ filled (i + 1)
+  pub values-next : (x : List A) (i : ℕ) (v : A) → x ≡ filled i → i < n → n ≤ length old → v ≡ f i → set x i v ≡ filled (i + 1)
   values-next x i v e h l q =
-      fill-next (replicate size z) (valuesFrom f 0 n) x i z v e (rw (length-replicate size z) (omega arith)) (rw (values-count f 0 n) h)
-      (q ∙ sym (value-at f n i z h))
+      fill-next old (valuesFrom f 0 n) x i v v e (omega arith) (rw (values-count f 0 n) h) (q ∙ sym (value-at f n i v h))
 
-  pub values-done : (x : List A) (i : ℕ) → x ≡ filled i → i ≡ n → x ≡ valuesFrom f 0 n ++ drop n (replicate size z)
-  values-done x i e q =
-      fill-within (replicate size z) (valuesFrom f 0 n) x 0 n (e ∙ rw q) (values-count f 0 n) ∙ rw zero-add
+  pub values-done : (x : List A) (i : ℕ) → x ≡ filled i → i ≡ n → x ≡ valuesFrom f 0 n ++ drop n old
+  values-done x i e q = fill-within old (valuesFrom f 0 n) x 0 n (e ∙ rw q) (values-count f 0 n) ∙ rw zero-add

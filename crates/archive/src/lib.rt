@@ -1,15 +1,16 @@
 // Calls on a bundle: opening the job at a place, the total of a holder's file over a run, opening a run. Each first reads the whole bundle.
 ghost use mathlib.Core.Path.{_≡_};
 ghost use mathlib.Core.List.{_++_};
-ghost use Prim.Native.Nat.{_+_, _-_, _*_, _≤_, _<_};
+ghost use Prim.Native.Nat.{ℕ, _+_, _-_, _*_, _≤_, _<_};
 ghost use lib.ListN.{length, take, drop, replicate};
 ghost use Rattle.words.specs.Refusal.{kept};
-ghost use Rattle.ring.specs.Element.{zeroE, held};
+ghost use Rattle.words.specs.Word.{inWidth, allInWidth};
+ghost use Rattle.ring.specs.Element.{zeroE, held, reduce};
 ghost use Rattle.sharing.specs.Opening.{faultOf, wrongOf, wordsOf as outputOf};
 ghost use Rattle.bundle.specs.Bundle.{bundleFault, bundleHeading, filesOf};
-ghost use Rattle.bundle.specs.Contents.{wordsOf};
-ghost use Rattle.archive.specs.Archive.{allowanceOf, holderOf, valuesFrom, runTotal, runInWidth, filesInWidth, placeOpening, runOpening};
-ghost use Rattle.archive.specs.Archive.{openPlace, openRun, fileTotalFault, totalFault, totalWords};
+ghost use Rattle.bundle.specs.Contents.{wordsFrom};
+ghost use Rattle.archive.specs.Archive.{allowanceOf, holderOf, valuesFrom, sumTo, runTotal, every, runInWidth, filesInWidth};
+ghost use Rattle.archive.specs.Archive.{placeOpening, runOpening, openPlace, openRun, fileTotalFault, totalFault, totalWords};
 use records::Heading;
 use sharing::Answer;
 use sharing::Opened;
@@ -22,51 +23,50 @@ fn allowance(bytes: &[u8]) -> u64
     records::number(bytes, records::PREFIX_SIZE, 1)
 }
 
-// Whether the words of file f are in width at the places a to b - 1.
-fn run_in_width(bytes: &[u8], h: Heading, f: usize, a: usize, b: usize) -> bool
-    requires { ⌜ (bundleFault (now bytes) ≡ 0) × (h ≡ bundleHeading (now bytes)) × (f < filesOf (now bytes)) × (a ≤ b) × (b ≤ h .jobs) ⌝ }
-    ensures { λ r. ⌜ r ≡ runInWidth (now (bytes .entry)) f a (b - a) ⌝ }
-{
-    let mut p = a;
-    while p < b {
-        let job = fetch::job_words(bytes, h, f, p);
-        if !words::all_in_width(h.params.k, &job) {
-            return false;
-        }
-        p += 1;
-    }
-    true
+// The jobs of one file at the places of a run: all their words together, bit by bit, and their sum in words of 64 bits.
+struct Run {
+    seen: u64,
+    sum: [u64; 6],
 }
 
-// The same of all files.
-fn files_in_width(bytes: &[u8], h: Heading, files: usize, a: usize, b: usize) -> bool
-    requires { ⌜ (bundleFault (now bytes) ≡ 0) × (h ≡ bundleHeading (now bytes)) × (files ≡ filesOf (now bytes)) × (a ≤ b) × (b ≤ h .jobs) ⌝ }
-    ensures { λ r. ⌜ r ≡ filesInWidth (now (bytes .entry)) a (b - a) ⌝ }
+// Reads `count` jobs of d words: the first job's words stand at `at`, and each job's `size` bytes after those of the job before. What is
+// required is that the last job's words are within the bytes. The sum is cut to k bits, and the words looked at for width, once at the end.
+fn add_run(bytes: &[u8], at: usize, size: usize, d: usize, count: usize) -> Run
+    requires { ⌜ (d ≤ 6) × (size ≤ 62) × (at + count * size + 8 * d ≤ length (now bytes) + size) ⌝ }
+    ensures { λ r. ⌜ ((k : ℕ) → inWidth k (r .seen) ≡ every (λ i. allInWidth k (wordsFrom 8 (now (bytes .entry)) d (at + i * size))) count)
+        × (r .sum ≡ held d (sumTo 64 d (λ i. wordsFrom 8 (now (bytes .entry)) d (at + i * size)) count)) ⌝ }
 {
-    let mut f: usize = 0;
-    while f < files {
-        if !run_in_width(bytes, h, f, a, b) {
-            return false;
-        }
-        f += 1;
-    }
-    true
-}
-
-// The sum of the words of file f at the places a to b - 1.
-fn run_total(bytes: &[u8], h: Heading, f: usize, a: usize, b: usize) -> [u64; 6]
-    requires { ⌜ (bundleFault (now bytes) ≡ 0) × (h ≡ bundleHeading (now bytes)) × (f < filesOf (now bytes)) × (a ≤ b) × (b ≤ h .jobs) ⌝ }
-    ensures { λ r. ⌜ r ≡ held (h .params .d) (runTotal (now (bytes .entry)) f a (b - a)) ⌝ }
-{
-    let mut r = [0u64; 6];
-    let mut p = a;
-    while p < b {
-        let w = fetch::job_words(bytes, h, f, p);
-        let s = ring::sum(h.params.k, r, w);
-        r = s;
+    let mut sum = [0u64; 6];
+    let mut seen: u64 = 0;
+    let mut here = at;
+    let mut p = 0;
+    while p < count {
+        let w = fetch::load_words(bytes, here, d);
+        seen = seen | (w[0] | (w[1] | (w[2] | (w[3] | (w[4] | w[5])))));
+        let s = ring::sum(64, sum, w);
+        sum = s;
+        here += size;
         p += 1;
     }
-    r
+    Run { seen, sum }
+}
+
+// The places a to b - 1 of file f, with code for each d.
+fn run_sum(bytes: &[u8], h: Heading, f: usize, a: usize, b: usize) -> Run
+    requires { ⌜ (bundleFault (now bytes) ≡ 0) × (h ≡ bundleHeading (now bytes)) × (f < filesOf (now bytes)) × (a ≤ b) × (b ≤ h .jobs) ⌝ }
+    ensures { λ r. ⌜ (inWidth (h .params .k) (r .seen) ≡ runInWidth (now (bytes .entry)) f a (b - a))
+        × (reduce (h .params .k) (r .sum) ≡ held (h .params .d) (runTotal (now (bytes .entry)) f a (b - a))) ⌝ }
+{
+    let at = fetch::job_at(h, f, a) + records::PREFIX_SIZE + records::NUMBER_SIZE;
+    let size = records::LENGTH_SIZE + records::job_length(h);
+    let d = h.params.d;
+    match d {
+        2 => add_run(bytes, at, size, 2, b - a),
+        3 => add_run(bytes, at, size, 3, b - a),
+        4 => add_run(bytes, at, size, 4, b - a),
+        5 => add_run(bytes, at, size, 5, b - a),
+        _ => add_run(bytes, at, size, 6, b - a),
+    }
 }
 
 // The holders of all files.
@@ -83,34 +83,31 @@ fn load_holders(bytes: &[u8], h: Heading, files: usize) -> [u64; 63]
     holders
 }
 
-// The words of the job at a place in each file.
-fn load_place(bytes: &[u8], h: Heading, files: usize, place: usize) -> [[u64; 6]; 63]
-    requires { ⌜ (bundleFault (now bytes) ≡ 0) × (h ≡ bundleHeading (now bytes)) × (files ≡ filesOf (now bytes)) × (place < h .jobs) ⌝ }
-    ensures { λ r. ⌜ r
-        ≡ valuesFrom (λ f. held (h .params .d) (wordsOf (now (bytes .entry)) f place)) 0 files ++ drop files (replicate 63 (replicate 6 0)) ⌝ }
+// The total of each file over the places a to b - 1, into the lent rows; all their words together, bit by bit.
+fn load_runs(
+    bytes: &[u8],
+    h: Heading,
+    files: usize,
+    a: usize,
+    b: usize,
+    shares: &mut [[u64; 6]; 63],
+) -> u64
+    requires { ⌜ (bundleFault (now bytes) ≡ 0) × (h ≡ bundleHeading (now bytes)) × (files ≡ filesOf (now bytes)) × (a ≤ b) × (b ≤ h .jobs)
+        × (length (now shares) ≡ 63) ⌝ }
+    ensures { λ r. ⌜ (inWidth (h .params .k) r ≡ filesInWidth (now (bytes .entry)) a (b - a))
+        × (now (shares .exit)
+        ≡ valuesFrom (λ f. held (h .params .d) (runTotal (now (bytes .entry)) f a (b - a))) 0 files ++ drop files (now (shares .entry))) ⌝ }
 {
-    let mut shares = [[0u64; 6]; 63];
+    let mut seen: u64 = 0;
     let mut f: usize = 0;
     while f < files {
-        shares[f] = fetch::job_words(bytes, h, f, place);
+        let r = run_sum(bytes, h, f, a, b);
+        let sum = r.sum;
+        seen = seen | r.seen;
+        shares[f] = ring::reduce(h.params.k, sum);
         f += 1;
     }
-    shares
-}
-
-// The total of each file over the places a to b - 1.
-fn load_run(bytes: &[u8], h: Heading, files: usize, a: usize, b: usize) -> [[u64; 6]; 63]
-    requires { ⌜ (bundleFault (now bytes) ≡ 0) × (h ≡ bundleHeading (now bytes)) × (files ≡ filesOf (now bytes)) × (a ≤ b) × (b ≤ h .jobs) ⌝ }
-    ensures { λ r. ⌜ r
-        ≡ valuesFrom (λ f. held (h .params .d) (runTotal (now (bytes .entry)) f a (b - a))) 0 files ++ drop files (replicate 63 (replicate 6 0)) ⌝ }
-{
-    let mut shares = [[0u64; 6]; 63];
-    let mut f: usize = 0;
-    while f < files {
-        shares[f] = run_total(bytes, h, f, a, b);
-        f += 1;
-    }
-    shares
+    seen
 }
 
 // The total of file f of an accepted bundle over a run.
@@ -129,11 +126,12 @@ fn file_total(bytes: &[u8], h: Heading, f: usize, a: usize, b: usize, out: &mut 
     if h.jobs < b {
         return words::OUT_OF_RANGE;
     }
-    if !run_in_width(bytes, h, f, a, b) {
+    let r = run_sum(bytes, h, f, a, b);
+    if !words::in_width(h.params.k, r.seen) {
         return words::WIDE_WORD;
     }
-    let sum = run_total(bytes, h, f, a, b);
-    ring::store(h.params.d, out, 0, sum);
+    let sum = r.sum;
+    ring::store(h.params.d, out, 0, ring::reduce(h.params.k, sum));
     0
 }
 
@@ -177,13 +175,7 @@ pub fn place_answer(bytes: &[u8], h: Heading, files: usize, place: usize) -> Ans
         × (r .wrong ≡ wrongOf (placeOpening (now (bytes .entry)) place))
         × (r .words ≡ held (h .params .d) (outputOf (zeroE (h .params .d)) (placeOpening (now (bytes .entry)) place))) ⌝ }
 {
-    if !files_in_width(bytes, h, files, place, place + 1) {
-        return wide_answer();
-    }
-    let holders = load_holders(bytes, h, files);
-    let shares = load_place(bytes, h, files, place);
-    let p = h.params;
-    sharing::answer_to(p, files, holders, shares, allowance(bytes))
+    run_answer(bytes, h, files, place, place + 1)
 }
 
 // What the places a to b - 1 open to, their shares added in each file.
@@ -193,18 +185,20 @@ fn run_answer(bytes: &[u8], h: Heading, files: usize, a: usize, b: usize) -> Ans
         × (r .wrong ≡ wrongOf (runOpening (now (bytes .entry)) a (b - a)))
         × (r .words ≡ held (h .params .d) (outputOf (zeroE (h .params .d)) (runOpening (now (bytes .entry)) a (b - a)))) ⌝ }
 {
-    if !files_in_width(bytes, h, files, a, b) {
+    let mut shares = [[0u64; 6]; 63];
+    let seen = load_runs(bytes, h, files, a, b, &mut shares);
+    if !words::in_width(h.params.k, seen) {
         return wide_answer();
     }
-    let holders = load_holders(bytes, h, files);
-    let shares = load_run(bytes, h, files, a, b);
+    let mut holders = load_holders(bytes, h, files);
     let p = h.params;
-    sharing::answer_to(p, files, holders, shares, allowance(bytes))
+    let e = allowance(bytes);
+    sharing::answer_to(p, files, &mut holders, &mut shares, e)
 }
 
 // An answer's words go to the output, unless it has a fault.
 fn hand_out(d: usize, answer: Answer, out: &mut [u64]) -> Opened
-    requires { ⌜ (d ≤ 6) × (length (now out) ≡ d) ⌝ }
+    requires { ⌜ ((2 ≤ d) × (d ≤ 6)) × (length (now out) ≡ d) ⌝ }
     ensures { λ r. ⌜ (r .fault ≡ answer .fault) × (r .wrong ≡ kept (answer .fault) 0 (answer .wrong))
         × (now (out .exit) ≡ kept (answer .fault) (now (out .entry)) (take d (answer .words))) ⌝ }
 {

@@ -110,11 +110,11 @@ fn job_fault(bytes: &[u8], len: usize, base: usize, prev: u64, p: usize, at: usi
     if !records::is_record(bytes, at, records::JOB_KIND, len) {
         return words::MALFORMED;
     }
-    let num = records::number(bytes, at + records::PREFIX_SIZE, records::NUMBER_SIZE);
+    let num = records::word_at(bytes, at + records::PREFIX_SIZE);
     if !rises(p, prev, num) {
         return words::MALFORMED;
     }
-    if records::number(bytes, base + records::PREFIX_SIZE, records::NUMBER_SIZE) != num {
+    if records::word_at(bytes, base + records::PREFIX_SIZE) != num {
         return words::MISMATCHED;
     }
     0
@@ -134,7 +134,7 @@ fn jobs_fault(bytes: &[u8], len: usize, base: usize, at: usize, count: usize) ->
         if fault != 0 {
             return fault;
         }
-        prev = records::number(bytes, here + records::PREFIX_SIZE, records::NUMBER_SIZE);
+        prev = records::word_at(bytes, here + records::PREFIX_SIZE);
         first += records::LENGTH_SIZE + len;
         here += records::LENGTH_SIZE + len;
         p += 1;

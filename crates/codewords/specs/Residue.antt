@@ -18,9 +18,17 @@ unfoldable pub bitOf : ℕ → Element → Element
 bitOf v [] = []
 bitOf v (w ∷ a) = w / 2 ^ v % 2 ∷ bitOf v a
 
--- bit v of what remains of a share, as a share of one bit
+-- what remains of a share, as a share
+abbrev pub left : ℕ → ℕ → Polynomial → Share → Share
+left k d p s = record { holder = s .holder; words = residue k d p s }
+
+-- bit v of a share's words, as a share of one bit
+abbrev pub bitShare : ℕ → Share → Share
+bitShare v s = record { holder = s .holder; words = bitOf v (s .words) }
+
+-- bit v of what remains of a share
 abbrev pub atBit : ℕ → ℕ → Polynomial → ℕ → Share → Share
-atBit k d p v s = record { holder = s .holder; words = bitOf v (residue k d p s) }
+atBit k d p v s = bitShare v (left k d p s)
 
 -- no share differs from p below bit v
 abbrev pub AgreeBelow : ℕ → ℕ → Polynomial → ℕ → List Share → Type 0

@@ -1,40 +1,17 @@
--- Arrays: the polynomial that 64 rows hold, and what a decoding stores; shares at an index, and the first of them. Assumes nothing.
-use mathlib.Core.Path.{_≡_, refl, _∙_, ap, ap₂}
+-- Shares in two arrays: the first of them, and those with other words under the same holders. Assumes nothing.
+use mathlib.Core.Path.{_≡_, refl, ap, ap₂}
 use mathlib.Core.List.{List, [], _∷_, map}
-use mathlib.Core.Option.{some}
-use Prim.Native.Nat.{ℕ, zero, suc, _≤_, _<_}
+use Prim.Native.Nat.{ℕ, zero, suc, _+_, _≤_, _<_}
 use native.Mathlib.Nat.{not-suc-le-zero, le-of-suc-le-suc, zero-add}
-use lib.ListN.{length, take, drop, replicate, length-map}
-use lib.Seq.{take-at}
-use Rattle.algebra.specs.Shares.{All}
-use Rattle.algebra.proofs.Shares.{all-at}
-use Rattle.ring.specs.Element.{held}
-use Rattle.ring.proofs.Held.{held-take}
-use Rattle.polynomial.specs.Polynomial.{Polynomial}
-use Rattle.polynomial.specs.Rows.{Rows, coefs}
-use Rattle.codewords.specs.Codeword.{Share, codeword}
-use Rattle.codewords.proofs.Value.{rows-of}
-use Rattle.codewords.proofs.Unique.{codeword-sound}
+use native.Mathlib.Omega.{arith}
+use lib.ListN.{take, getD}
+use Rattle.ring.specs.Element.{Element}
+use Rattle.polynomial.specs.Rows.{Rows}
+use Rattle.codewords.specs.Codeword.{Share}
+use Rattle.codewords.proofs.Without.{reword}
 use Rattle.level.specs.Shares.{share, shareAt, sharesFrom, sharesOf}
-use Rattle.level.proofs.Shares.{length-from, from-at}
-use Rattle.decoder.specs.Decoded.{rowsOf, stored}
 
--- the coefficients that the rows hold
-pub coefs-rows : (d n : ℕ) (p : Polynomial) → length p ≡ n → All (λ c. length c ≡ d) p → coefs d n (rowsOf d p) ≡ p
-coefs-rows d n p l a =
-    ap (map (take d)) (take-at (map (held d) p) (drop (length p) (replicate 64 (replicate 6 0))) n (length-map p (held d) ∙ l)) ∙ all p a
-  where
-    all : (p : Polynomial) → All (λ c. length c ≡ d) p → map (take d) (map (held d) p) ≡ p
-    all [] a = refl
-    all (c ∷ p) a = ap₂ _∷_ (held-take d c (a .0)) (all p (a .1))
-
--- what holds of all shares holds of the one at an index
-pub at-index : (d : ℕ) (P : Share → Type 0) (hs : List ℕ) (ys : Rows) (m i : ℕ) → i < m → All P (sharesOf d m hs ys) → P (shareAt d hs ys i)
-at-index d P hs ys m i h a =
-    let z = share 0 [] in
-    rw (from-at d hs ys 0 m i z h, zero-add i) at (all-at P (sharesOf d m hs ys) i z a (rw (length-from d hs ys 0 m) h))
-
--- the first n of them
+-- the first n
 take-from : (d : ℕ) (hs : List ℕ) (ys : Rows) (i n m : ℕ) → n ≤ m → take n (sharesFrom d hs ys i m) ≡ sharesFrom d hs ys i n
 unfolding sharesFrom
 take-from d hs ys i zero m h = refl
@@ -44,10 +21,14 @@ take-from d hs ys i (suc n) (suc m) h = ap (λ (l : List Share). shareAt d hs ys
 pub take-of : (d : ℕ) (hs : List ℕ) (ys : Rows) (n m : ℕ) → n ≤ m → take n (sharesOf d m hs ys) ≡ sharesOf d n hs ys
 take-of d hs ys n m h = take-from d hs ys 0 n m h
 
--- what a caller finds in the array that a decoding stored
-pub stored-coefs : (k d t e : ℕ) (ss : List Share) (q : Polynomial) (old : Rows) → codeword k d t e ss ≡ some q →
-    coefs d (suc t) (stored d (codeword k d t e ss) old) ≡ q
-unfolding stored
-stored-coefs k d t e ss q old h =
-    let i = codeword-sound k d t e ss q h .0 in
-    rw h (coefs-rows d (suc t) q (i .0) (rows-of k d t q i))
+-- other words
+reword-from : (d e : ℕ) (hs : List ℕ) (ys zs : Rows) (f : Share → Element) (i n : ℕ) →
+    ((j : ℕ) → j < i + n → take e (getD zs j []) ≡ f (shareAt d hs ys j)) → sharesFrom e hs zs i n ≡ map (reword f) (sharesFrom d hs ys i n)
+unfolding sharesFrom
+reword-from d e hs ys zs f i zero h = refl
+reword-from d e hs ys zs f i (suc n) h =
+    ap₂ _∷_ (ap (share (getD hs i 0)) (h i (omega arith))) (reword-from d e hs ys zs f (suc i) n (λ j l. h j (omega arith)))
+
+pub reword-of : (d e : ℕ) (hs : List ℕ) (ys zs : Rows) (f : Share → Element) (m : ℕ) →
+    ((j : ℕ) → j < m → take e (getD zs j []) ≡ f (shareAt d hs ys j)) → sharesOf e m hs zs ≡ map (reword f) (sharesOf d m hs ys)
+reword-of d e hs ys zs f m h = reword-from d e hs ys zs f 0 m (λ j l. h j (rw zero-add at l))

@@ -2,7 +2,7 @@
 -- the lowest of them no share differs from the polynomial, and at it some share does (`lowest`). Assumes nothing.
 use mathlib.Core.Path.{_≡_, refl, sym, _∙_, ap, ap₂}
 use mathlib.Core.Bool.{true}
-use mathlib.Core.List.{List, [], _∷_, _++_}
+use mathlib.Core.List.{List, [], _∷_, _++_, map}
 use Prim.Native.Nat.{ℕ, zero, suc, _+_, _*_, _-_, _/_, _%_, _^_, _≤_, _<_}
 use native.Mathlib.Nat.{mod-lt, div-one, div-div-eq-div-mul, pow-succ', pow-suc, pow-le-pow-right, zero-div}
 use native.Mathlib.Numerals.{add-one}
@@ -13,6 +13,7 @@ use lib.Count.{trailingZeros, under}
 use lib.Dec.{lit<, ltb}
 use lib.Pow.{pow-pos, shr-lt, split}
 use lib.ListN.{length, take, getD}
+use lib.Seq.{getD-take}
 use borrow.Author.Tests.{ltb-true}
 use Rattle.words.specs.Word.{allInWidth}
 use Rattle.words.proofs.Tests.{and-left, and-right}
@@ -21,7 +22,7 @@ use Rattle.ring.specs.Element.{Element, zeroE, held}
 use Rattle.ring.proofs.Zip.{six-words}
 use Rattle.ring.proofs.Held.{zeros-after}
 use Rattle.codewords.specs.Codeword.{Share, Polynomial}
-use Rattle.codewords.specs.Residue.{residue, bitOf, AgreeBelow}
+use Rattle.codewords.specs.Residue.{residue, left, bitOf, AgreeBelow}
 use Rattle.codewords.specs.WellFormed.{IsElement}
 use Rattle.decoder.specs.Residues.{bitsOf, bitsOfAll}
 
@@ -70,20 +71,24 @@ unfolding bitsOf
 bits-after [] n = zero-bits n
 bits-after (w ∷ a) n = ap (bitOr w) (bits-after a n)
 
-bits-held : (d : ℕ) (a : Element) → d ≤ 6 → bitsOf (held d a) ≡ bitsOf (take d a)
+pub bits-held : (d : ℕ) (a : Element) → d ≤ 6 → bitsOf (held d a) ≡ bitsOf (take d a)
 bits-held d a h = ap (λ (z : Element). bitsOf (take d a ++ z)) (zeros-after d h) ∙ bits-after (take d a) (6 - d)
 
-bits-six : (u : Element) → length u ≡ 6 →
-    bitOr (getD u 0 0) (bitOr (getD u 1 0) (bitOr (getD u 2 0) (bitOr (getD u 3 0) (bitOr (getD u 4 0) (getD u 5 0))))) ≡ bitsOf u
+abbrev pub sixBits : Element → ℕ
+sixBits u = bitOr (getD u 0 0) (bitOr (getD u 1 0) (bitOr (getD u 2 0) (bitOr (getD u 3 0) (bitOr (getD u 4 0) (getD u 5 0)))))
+
+six-bits : (u : Element) → length u ≡ 6 → sixBits u ≡ bitsOf u
 unfolding bitsOf
-bits-six u h =
+six-bits u h =
     ap (λ x. bitOr (getD u 0 0) (bitOr (getD u 1 0) (bitOr (getD u 2 0) (bitOr (getD u 3 0) (bitOr (getD u 4 0) x)))))
     (sym (or-zero-r (getD u 5 0)))
     ∙ ap bitsOf (sym (six-words u h))
 
-pub bits-words : (d : ℕ) (u a e : Element) → d ≤ 6 → u ≡ held d a → length u ≡ 6 → take d a ≡ e →
-    bitOr (getD u 0 0) (bitOr (getD u 1 0) (bitOr (getD u 2 0) (bitOr (getD u 3 0) (bitOr (getD u 4 0) (getD u 5 0))))) ≡ bitsOf e
-bits-words d u a e h eu l ea = bits-six u l ∙ ap bitsOf eu ∙ bits-held d a h ∙ ap bitsOf ea
+pub bits-six : (u : Element) → length (take 6 u) ≡ 6 → sixBits u ≡ bitsOf (take 6 u)
+bits-six u h = rw (← at 0 (lit< tt), ← at 1 (lit< tt), ← at 2 (lit< tt), ← at 3 (lit< tt), ← at 4 (lit< tt), ← at 5 (lit< tt)) (six-bits (take 6 u) h)
+  where
+    at : (i : ℕ) → i < 6 → getD (take 6 u) i 0 ≡ getD u i 0
+    at i l = getD-take 6 u i 0 l
 
 -- the lowest bit of a number
 pub trailing : (m n : ℕ) → 0 < n → n < 2 ^ m → (n % 2 ^ trailingZeros m n ≡ 0) × (n / 2 ^ trailingZeros m n % 2 ≡ 1)
@@ -120,27 +125,30 @@ bit-room k n v h b = go (decLe k v)
 
 -- all shares together
 module _ (k d : ℕ) (p : Polynomial) where
-  all-below : (v : ℕ) (ss : List Share) → bitsOfAll k d p ss % 2 ^ v ≡ 0 → AgreeBelow k d p v ss
+  abbrev leftBits : List Share → ℕ
+  leftBits ss = bitsOfAll (map (left k d p) ss)
+
+  all-below : (v : ℕ) (ss : List Share) → leftBits ss % 2 ^ v ≡ 0 → AgreeBelow k d p v ss
   unfolding bitsOfAll
   all-below v [] h = tt
   all-below v (s ∷ ss) h =
-      let z = or-below (bitsOfAll k d p ss) (bitsOf (residue k d p s)) v h in
+      let z = or-below (leftBits ss) (bitsOf (residue k d p s)) v h in
       (bits-below v (residue k d p s) (z .1), all-below v ss (z .0))
 
-  all-clear : (v : ℕ) (ss : List Share) → All (λ s. All (λ b. b ≡ 0) (bitOf v (residue k d p s))) ss → bitsOfAll k d p ss / 2 ^ v % 2 ≡ 0
+  all-clear : (v : ℕ) (ss : List Share) → All (λ s. All (λ b. b ≡ 0) (bitOf v (residue k d p s))) ss → leftBits ss / 2 ^ v % 2 ≡ 0
   unfolding bitsOfAll
   all-clear v [] h = rw (zero-div (2 ^ v))
-  all-clear v (s ∷ ss) h = or-clear (bitsOfAll k d p ss) (bitsOf (residue k d p s)) v (all-clear v ss (h .1)) (bits-clear v (residue k d p s) (h .0))
+  all-clear v (s ∷ ss) h = or-clear (leftBits ss) (bitsOf (residue k d p s)) v (all-clear v ss (h .1)) (bits-clear v (residue k d p s) (h .0))
 
-  pub all-width : (ss : List Share) → All (λ s. IsElement k d (residue k d p s)) ss → bitsOfAll k d p ss < 2 ^ k
+  pub all-width : (ss : List Share) → All (λ s. IsElement k d (residue k d p s)) ss → leftBits ss < 2 ^ k
   unfolding bitsOfAll
   all-width [] h = pow-pos k
-  all-width (s ∷ ss) h = or-lt k (bitsOfAll k d p ss) (bitsOf (residue k d p s)) (all-width ss (h .1)) (bits-width k (residue k d p s) (h .0 .1))
+  all-width (s ∷ ss) h = or-lt k (leftBits ss) (bitsOf (residue k d p s)) (all-width ss (h .1)) (bits-width k (residue k d p s) (h .0 .1))
 
-  pub all-zero : (ss : List Share) → bitsOfAll k d p ss ≡ 0 → All (λ s. bitsOf (residue k d p s) ≡ 0) ss
+  pub all-zero : (ss : List Share) → leftBits ss ≡ 0 → All (λ s. bitsOf (residue k d p s) ≡ 0) ss
   unfolding bitsOfAll
   all-zero [] h = tt
-  all-zero (s ∷ ss) h = let z = or-zero (bitsOfAll k d p ss) (bitsOf (residue k d p s)) h in (z .1, all-zero ss (z .0))
+  all-zero (s ∷ ss) h = let z = or-zero (leftBits ss) (bitsOf (residue k d p s)) h in (z .1, all-zero ss (z .0))
 
   -- the lowest bit at which a share differs
   pub record Lowest (ss : List Share) (v : ℕ) : Type 0 where
@@ -148,10 +156,10 @@ module _ (k d : ℕ) (p : Polynomial) where
     pub agree : AgreeBelow k d p v ss
     pub set : All (λ s. All (λ b. b ≡ 0) (bitOf v (residue k d p s))) ss → ⊥
 
-  pub lowest : (ss : List Share) → All (λ s. IsElement k d (residue k d p s)) ss → k ≤ 64 → 0 < bitsOfAll k d p ss →
-      Lowest ss (trailingZeros 64 (bitsOfAll k d p ss))
+  pub lowest : (ss : List Share) → All (λ s. IsElement k d (residue k d p s)) ss → k ≤ 64 → 0 < leftBits ss →
+      Lowest ss (trailingZeros 64 (leftBits ss))
   lowest ss h l z =
-      let n = bitsOfAll k d p ss in
+      let n = leftBits ss in
       let v = trailingZeros 64 n in
       let w : n < 2 ^ k = all-width ss h in
       let q : 2 ^ k ≤ 2 ^ 64 = pow-le-pow-right (omega arith) l in

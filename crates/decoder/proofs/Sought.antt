@@ -9,12 +9,12 @@ use Prim.Native.Nat.{ℕ, zero, suc, _+_, _*_, _-_, _^_, _≤_, _<_}
 use native.Mathlib.Nat.{add-assoc, zero-add, pow-suc, pow-le-pow-right}
 use native.Mathlib.Omega.{arith}
 use lib.Count.{ones, trailingZeros}
-use lib.ListN.{length, take}
+use lib.ListN.{length, take, getD}
 use Rattle.algebra.specs.Shares.{All}
 use Rattle.algebra.proofs.Shares.{all-map}
 use Rattle.polynomial.specs.Rows.{Rows, coefs}
 use Rattle.codewords.specs.Codeword.{Share, Polynomial, differs, errors, errorSet, codeword}
-use Rattle.codewords.specs.Residue.{residue, bitOf, atBit, without}
+use Rattle.codewords.specs.Residue.{residue, left, bitOf, bitShare, atBit, without}
 use Rattle.codewords.specs.WellFormed.{IsElement, InWidth, Rising, Holders}
 use Rattle.codewords.proofs.Value.{rows-of}
 use Rattle.codewords.proofs.Unique.{codeword-sound, codeword-complete}
@@ -25,7 +25,7 @@ use Rattle.codewords.proofs.Jump.{bit-differs-at, ones-at, enough-without, jump
 use Rattle.level.specs.Level.{levelOf}
 use Rattle.level.specs.declared.Level.{Level}
 use Rattle.level.specs.declared.Level.the-variants.{Codeword, Nothing}
-use Rattle.decoder.specs.Decoded.{answer, stored}
+use Rattle.decoder.specs.Decoded.{answer, storedSecret}
 use Rattle.decoder.specs.Residues.{Through, bitsOfAll}
 use Rattle.decoder.proofs.Lowest.{Lowest, lowest}
 use Rattle.decoder.proofs.Compared.{no-errors}
@@ -115,6 +115,11 @@ level-none d bs (some g) got l e = absurd (distinct (sym e ∙ l))
     distinct : Nothing ≡ Codeword (errorSet 1 d g bs) → ⊥
     distinct x = mathlib.Core.Path.subst is x tt
 
+-- bit v of what is left
+bits-left : (k d : ℕ) (p : Polynomial) (v : ℕ) (ss : List Share) → map (bitShare v) (map (left k d p) ss) ≡ map (atBit k d p v) ss
+bits-left k d p v [] = refl
+bits-left k d p v (s ∷ ss) = ap (λ (l : List Share). atBit k d p v s ∷ l) (bits-left k d p v ss)
+
 module _ (d : ℕ) (dl : 2 ≤ d) (dh : d ≤ 6) (k t e₀ : ℕ) (ss₀ : List Share) where
   pub start : Holders d ss₀ → Rising ss₀ → InWidth k d ss₀ → suc t + 2 * e₀ ≤ length ss₀ → Sought k d t e₀ ss₀ e₀ 0 ss₀
   start a u w m =
@@ -162,23 +167,24 @@ module _ (d : ℕ) (dl : 2 ≤ d) (dh : d ≤ 6) (k t e₀ : ℕ) (ss₀ : List 
       P = coefs d (suc t) q
 
       -- few enough differ
-      pub ends : (set : ℕ) → set ≡ errorSet k d P ss → ones set ≤ e → (old : Rows) →
-          (Codeword (w + set) ≡ answer k d ss₀ (codeword k d t e₀ ss₀)) × (q ≡ stored d (codeword k d t e₀ ss₀) old)
-      unfolding answer stored
+      pub ends : (set : ℕ) → set ≡ errorSet k d P ss → ones set ≤ e → (old : List ℕ) →
+          (Codeword (w + set) ≡ answer k d ss₀ (codeword k d t e₀ ss₀)) × (getD q 0 [] ≡ storedSecret d (codeword k d t e₀ ss₀) old)
+      unfolding answer storedSecret
       ends set es h old =
           let c = codeword-complete d dl dh k t e ss P (r .holders) (r .enough) (th .0) (rw (es, ones-of P) at h) in
           let f = found-some P c in
           rw (f .0) (ap Codeword (ap (λ n. w + n) es ∙ sym (f .1)), th .1)
 
       -- too many differ
-      module _ (kh : k ≤ 64) (set : ℕ) (es : set ≡ errorSet k d P ss) (h : e < ones set) (bits : ℕ) (eb : bits ≡ bitsOfAll k d P ss) where
+      module _ (kh : k ≤ 64) (set : ℕ) (es : set ≡ errorSet k d P ss)
+          (h : e < ones set) (bits : ℕ) (eb : bits ≡ bitsOfAll (map (left k d P) ss)) where
         residues : All (λ s. IsElement k d (residue k d P s)) ss
         residues = all-map (λ s x. residue-element d dl dh k P (rows-of k d t P (th .0)) s (x .0)) ss (r .width)
 
-        some-bits : 0 < bitsOfAll k d P ss
-        some-bits = go (bitsOfAll k d P ss) refl
+        some-bits : 0 < bitsOfAll (map (left k d P) ss)
+        some-bits = go (bitsOfAll (map (left k d P) ss)) refl
           where
-            go : (n : ℕ) → bitsOfAll k d P ss ≡ n → 0 < n
+            go : (n : ℕ) → bitsOfAll (map (left k d P) ss) ≡ n → 0 < n
             go zero z =
                 absurd (omega (arith, h, ap ones es, ones-of P, no-errors d dl dh k t P (th .0) ss (r .width) z))
             go (suc n) z = omega arith
@@ -237,11 +243,15 @@ module _ (d : ℕ) (dl : 2 ≤ d) (dh : d ≤ 6) (k t e₀ : ℕ) (ss₀ : List 
           jumped : Jumped k d t e₀ ss₀ e w ss u
           jumped = record { within = rw ones-u within; fits = omega (arith, r .fits, parts); drops = dropped; next = after }
 
-        -- what the level gave
-        module _ (got : Level) (eg : got ≡ levelOf d W (codeword 1 d t e W)) where
-          pub nothing : got ≡ Nothing → (old : Rows) →
-              (Nothing ≡ answer k d ss₀ (codeword k d t e₀ ss₀)) × (old ≡ stored d (codeword k d t e₀ ss₀) old)
-          unfolding answer stored
+        -- what the level gave, of the shares that were left
+        module _ (rs : List Share) (er : rs ≡ map (left k d P) ss) (got : Level)
+            (el : got ≡ levelOf d (map (bitShare v) rs) (codeword 1 d t e (map (bitShare v) rs))) where
+          eg : got ≡ levelOf d W (codeword 1 d t e W)
+          eg = rw (ap (map (bitShare v)) er ∙ bits-left k d P v ss) at el
+
+          pub nothing : got ≡ Nothing → (old : List ℕ) →
+              (Nothing ≡ answer k d ss₀ (codeword k d t e₀ ss₀)) × (old ≡ storedSecret d (codeword k d t e₀ ss₀) old)
+          unfolding answer storedSecret
           nothing x old =
               let y = level-none d W (codeword 1 d t e W) got eg x in
               rw (found-none (jump-none d dl dh k t e ss P v (r .holders) (r .width) (r .enough) (th .0) (at .room) (at .agree) y)) (refl, refl)

@@ -1,13 +1,12 @@
--- What decoding asks and gives, paper 01, "Ring, points, shares": the codeword's error set or that there is none, and its coefficients in rows.
--- Assumes nothing.
-use mathlib.Core.List.{List, _++_, map}
+-- What decoding asks and gives, paper 01, "Ring, points, shares": the codeword's error set or that there is none, and its free term, the job,
+-- in an array of six. Assumes nothing.
+use mathlib.Core.List.{List, []}
 use mathlib.Core.Option.{Option, none, some}
 use Prim.Native.Nat.{ℕ, _≤_}
-use lib.ListN.{length, drop, replicate}
+use lib.ListN.{getD}
 use Rattle.algebra.specs.Shares.{All}
 use Rattle.ring.specs.Element.{held}
 use Rattle.polynomial.specs.Polynomial.{Polynomial}
-use Rattle.polynomial.specs.Rows.{Rows}
 use Rattle.codewords.specs.Codeword.{Share, errorSet}
 use Rattle.codewords.specs.WellFormed.{Rising}
 use Rattle.level.specs.declared.Level.{Level}
@@ -23,11 +22,7 @@ unfolding errorSet
 answer k d ss none = Nothing
 answer k d ss (some q) = Codeword (errorSet k d q ss)
 
--- a polynomial in an array of 64 rows, zeros after its coefficients
-abbrev pub rowsOf : ℕ → Polynomial → Rows
-rowsOf d q = map (held d) q ++ drop (length q) (replicate 64 (replicate 6 0))
-
--- "Outputs keep their old contents", or take the codeword's coefficients
-unfoldable pub stored : ℕ → Option Polynomial → Rows → Rows
-stored d none old = old
-stored d (some q) old = rowsOf d q
+-- "Outputs keep their old contents", or take the codeword's free term
+unfoldable pub storedSecret : ℕ → Option Polynomial → List ℕ → List ℕ
+storedSecret d none old = old
+storedSecret d (some q) old = held d (getD q 0 [])

@@ -4,17 +4,18 @@
 // the search goes on among the others with as much less to allow.
 ghost use mathlib.Core.Path.{_≡_};
 ghost use mathlib.Core.Bool.{true};
+ghost use mathlib.Core.List.{[], _∷_};
 ghost use Prim.Native.Nat.{ℕ, suc, _+_, _*_, _≤_, _<_};
-ghost use lib.ListN.{length, take, getD};
+ghost use lib.ListN.{length, take, getD, replicate};
 ghost use Rattle.ring.specs.Element.{held, lower};
-ghost use Rattle.polynomial.specs.Rows.{Shaped, coefs};
+ghost use Rattle.polynomial.specs.Rows.{Shaped, reduceRows};
 ghost use Rattle.codewords.specs.Codeword.{errorSet, codeword};
-ghost use Rattle.codewords.specs.Residue.{residue, without};
-ghost use Rattle.codewords.specs.WellFormed.{IsPoly, InWidth, Rising, Holders};
-ghost use Rattle.level.specs.Shares.{share, sharesOf};
+ghost use Rattle.codewords.specs.Residue.{without};
+ghost use Rattle.codewords.specs.WellFormed.{InWidth, Rising, Holders};
+ghost use Rattle.level.specs.Shares.{sharesOf, Sized};
 ghost use Rattle.words.specs.Params.{paramsOk};
-ghost use Rattle.decoder.specs.Decoded.{Ordered, answer, stored};
-ghost use Rattle.decoder.specs.Residues.{Through, bitsOf, bitsOfAll};
+ghost use Rattle.decoder.specs.Decoded.{Ordered, answer, storedSecret};
+ghost use Rattle.decoder.specs.Residues.{Through, bitsOfAll};
 use level::Level;
 
 // The shares that differ from a polynomial: the set of their holders, and every bit at which a word of one of them differs.
@@ -23,7 +24,35 @@ struct Differing {
     bits: u64,
 }
 
-// The polynomial through the first t + 1 shares.
+// Zero and one, where interpolation starts: the first t + 2 rows of each, all that it looks at.
+fn clear_rows(t: usize, q: &mut [[u64; 6]; 64], nodal: &mut [[u64; 6]; 64])
+    requires { ⌜ (t ≤ 62) × Shaped (now q) × Shaped (now nodal) ⌝ }
+    ensures { λ _. ⌜ (take (t + 2) (now (q .exit)) ≡ replicate (t + 2) (replicate 6 0))
+        × (take (t + 2) (now (nodal .exit)) ≡ (1 ∷ replicate 5 0) ∷ replicate (t + 1) (replicate 6 0))
+        × Shaped (now (q .exit)) × Shaped (now (nodal .exit)) ⌝ }
+{
+    let mut i = 0;
+    while i < t + 2 {
+        q[i] = [0; 6];
+        nodal[i] = [0; 6];
+        i += 1;
+    }
+    nodal[0] = [1, 0, 0, 0, 0, 0];
+}
+
+// The lowest k bits of the words of the first t + 1 rows.
+fn reduce_rows(k: u64, t: usize, q: &mut [[u64; 6]; 64])
+    requires { ⌜ ((1 ≤ k) × (k ≤ 64)) × (t ≤ 62) × Shaped (now q) ⌝ }
+    ensures { λ _. ⌜ (take (suc t) (now (q .exit)) ≡ reduceRows k (take (suc t) (now (q .entry)))) × Shaped (now (q .exit)) ⌝ }
+{
+    let mut j = 0;
+    while j <= t {
+        q[j] = ring::reduce(k, q[j]);
+        j += 1;
+    }
+}
+
+// The polynomial through the first t + 1 shares, in q; nodal is room to work in.
 fn interpolate(
     k: u64,
     d: usize,
@@ -31,61 +60,37 @@ fn interpolate(
     t: usize,
     hs: &[u64; 63],
     ys: &[[u64; 6]; 63],
-) -> [[u64; 6]; 64]
+    q: &mut [[u64; 6]; 64],
+    nodal: &mut [[u64; 6]; 64],
+)
     requires { ⌜ ((1 ≤ k) × (k ≤ 64)) × ((2 ≤ d) × (d ≤ 6)) × (low ≡ held d (lower d)) × (t ≤ 62)
-        × Holders d (sharesOf d (suc t) (now hs) (now ys)) × InWidth k d (sharesOf d (suc t) (now hs) (now ys)) ⌝ }
-    ensures { λ r. ⌜ Through k d t (sharesOf d (suc t) (now (hs .entry)) (now (ys .entry))) r ⌝ }
+        × Holders d (sharesOf d (suc t) (now hs) (now ys)) × InWidth k d (sharesOf d (suc t) (now hs) (now ys))
+        × Shaped (now q) × Shaped (now nodal) ⌝ }
+    ensures { λ _. ⌜ Through k d t (sharesOf d (suc t) (now (hs .entry)) (now (ys .entry))) (now (q .exit))
+        × Shaped (now (q .exit)) × Shaped (now (nodal .exit)) ⌝ }
 {
-    let mut q = [[0u64; 6]; 64];
-    let mut nodal = [[0u64; 6]; 64];
-    nodal[0] = [1, 0, 0, 0, 0, 0];
+    clear_rows(t, q, nodal);
     let mut i = t + 1;
     while 0 < i {
         i -= 1;
-        polynomial::extend(k, d, low, &mut q, &mut nodal, t - i, hs[i], ys[i]);
+        polynomial::extend(k, d, low, q, nodal, t - i, hs[i], ys[i]);
     }
-    q
+    reduce_rows(k, t, q);
 }
 
-// The bits of what the polynomial p leaves of holder x's share y, those of all its words together.
-fn residue_bits(
-    k: u64,
-    d: usize,
-    low: [u64; 6],
-    p: &[[u64; 6]; 64],
-    t: usize,
-    x: u64,
-    y: [u64; 6],
-) -> u64
-    requires { ⌜ ((1 ≤ k) × (k ≤ 64)) × ((2 ≤ d) × (d ≤ 6)) × (low ≡ held d (lower d)) × (t ≤ 62) × Shaped (now p) ⌝ }
-    ensures { λ r. ⌜ r ≡ bitsOf (residue k d (coefs d (suc t) (now (p .entry))) (share x (take d y))) ⌝ }
-{
-    let u = level::residue(k, d, low, p, t, x, y);
-    u[0] | (u[1] | (u[2] | (u[3] | (u[4] | u[5]))))
-}
-
-// The shares that differ from p.
-fn compare(
-    k: u64,
-    d: usize,
-    low: [u64; 6],
-    p: [[u64; 6]; 64],
-    t: usize,
-    m: usize,
-    hs: &[u64; 63],
-    ys: &[[u64; 6]; 63],
-) -> Differing
-    requires { ⌜ ((1 ≤ k) × (k ≤ 64)) × ((2 ≤ d) × (d ≤ 6)) × (low ≡ held d (lower d)) × (t ≤ 62) × (m ≤ 63)
-        × IsPoly k d t (coefs d (suc t) p) × Holders d (sharesOf d m (now hs) (now ys)) × InWidth k d (sharesOf d m (now hs) (now ys)) ⌝ }
-    ensures { λ r. ⌜ (r .set ≡ errorSet k d (coefs d (suc t) p) (sharesOf d m (now (hs .entry)) (now (ys .entry))))
-        × (r .bits ≡ bitsOfAll k d (coefs d (suc t) p) (sharesOf d m (now (hs .entry)) (now (ys .entry)))) ⌝ }
+// The shares of which something is left: those that differ from zero, the polynomial with no coefficients.
+fn compare(m: usize, hs: &[u64; 63], rest: &[[u64; 6]; 63]) -> Differing
+    requires { ⌜ (m ≤ 63) × Holders 6 (sharesOf 6 m (now hs) (now rest)) × Sized 6 (sharesOf 6 m (now hs) (now rest)) ⌝ }
+    ensures { λ r. ⌜ (r .set ≡ errorSet 64 6 [] (sharesOf 6 m (now (hs .entry)) (now (rest .entry))))
+        × (r .bits ≡ bitsOfAll (sharesOf 6 m (now (hs .entry)) (now (rest .entry)))) ⌝ }
 {
     let mut set: u64 = 0;
     let mut bits: u64 = 0;
     let mut i = m;
     while 0 < i {
         i -= 1;
-        let b = residue_bits(k, d, low, &p, t, hs[i], ys[i]);
+        let u = rest[i];
+        let b = u[0] | (u[1] | (u[2] | (u[3] | (u[4] | u[5]))));
         bits = bits | b;
         if b != 0 {
             set = set | (1u64 << (hs[i] - 1));
@@ -115,62 +120,69 @@ fn drop_wrong(w: u64, m: usize, hs: &mut [u64; 63], ys: &mut [[u64; 6]; 63]) -> 
     j
 }
 
-// The search: `count` shares are still in, of which `bound` may differ; those of the holders in `wrong` are out.
+// The search: `count` shares are still in, of which `bound` may differ; those of the holders in `wrong` are out. The first t + 1 rows of
+// `rest` stay zero: nothing is left of the shares that the polynomial goes through.
 fn search(
     k: u64,
     d: usize,
     low: [u64; 6],
     t: usize,
     m: usize,
-    holders: [u64; 63],
-    shares: [[u64; 6]; 63],
+    hs: &mut [u64; 63],
+    ys: &mut [[u64; 6]; 63],
     e: u64,
-    out: &mut [[u64; 6]; 64],
+    out: &mut [u64; 6],
 ) -> Level
     requires { ⌜ ((1 ≤ k) × (k ≤ 64)) × ((2 ≤ d) × (d ≤ 6)) × (low ≡ held d (lower d)) × (t ≤ 62) × (m ≤ 63) × (suc t + 2 * e ≤ m)
-        × Holders d (sharesOf d m holders shares) × Rising (sharesOf d m holders shares) × InWidth k d (sharesOf d m holders shares) ⌝ }
-    ensures level { λ r. ⌜ r ≡ answer k d (sharesOf d m holders shares) (codeword k d t e (sharesOf d m holders shares)) ⌝ }
-    ensures out { λ _. ⌜ now (out .exit) ≡ stored d (codeword k d t e (sharesOf d m holders shares)) (now (out .entry)) ⌝ }
+        × Holders d (sharesOf d m (now hs) (now ys)) × Rising (sharesOf d m (now hs) (now ys)) × InWidth k d (sharesOf d m (now hs) (now ys))
+        × (length (now hs) ≡ 63) × (length (now ys) ≡ 63) ⌝ }
+    ensures level { λ r. ⌜ r ≡ answer k d (sharesOf d m (now (hs .entry)) (now (ys .entry)))
+        (codeword k d t e (sharesOf d m (now (hs .entry)) (now (ys .entry)))) ⌝ }
+    ensures out { λ _. ⌜ now (out .exit) ≡ storedSecret d (codeword k d t e (sharesOf d m (now (hs .entry)) (now (ys .entry)))) (now (out .entry)) ⌝ }
 {
-    let mut hs = holders;
-    let mut ys = shares;
     let mut wrong: u64 = 0;
     let mut bound = e;
     let mut count = m;
+    let mut rest = [[0u64; 6]; 63];
+    let mut q = [[0u64; 6]; 64];
+    let mut nodal = [[0u64; 6]; 64];
     loop {
-        let q = interpolate(k, d, low, t, &hs, &ys);
-        let c = compare(k, d, low, q, t, count, &hs, &ys);
+        interpolate(k, d, low, t, hs, ys, &mut q, &mut nodal);
+        level::residues(k, d, low, q, t, count, hs, ys, &mut rest);
+        let c = compare(count, hs, &rest);
         if u64::count_ones(c.set) as u64 <= bound {
-            *out = q;
+            *out = q[0];
             wrong += c.set;
             return Level::Codeword(wrong);
         }
         let v = u64::trailing_zeros(c.bits) as u64;
-        let got = level::decide(k, d, low, q, v, t, count, &hs, &ys, bound);
+        let got = level::decide(d, low, v, t, count, hs, &rest, bound);
         let Level::Codeword(w) = got else {
             return Level::Nothing;
         };
         let errors = u64::count_ones(w) as u64;
         bound -= errors;
         wrong += w;
-        count = drop_wrong(w, count, &mut hs, &mut ys);
+        count = drop_wrong(w, count, hs, ys);
     }
 }
 
-// The codeword within e errors of m shares under rising holders: the set of the holders whose shares differ from it, and its coefficients
-// in `out`; or that there is none, and `out` as it was.
+// The codeword within e errors of m shares under rising holders: the set of the holders whose shares differ from it, and its free term in
+// `out`; or that there is none, and `out` as it was. The arrays of holders and shares are room to work in: they are not the same after it.
 pub fn decode(
     p: words::Params,
     m: usize,
-    holders: [u64; 63],
-    shares: [[u64; 6]; 63],
+    holders: &mut [u64; 63],
+    shares: &mut [[u64; 6]; 63],
     e: u64,
-    out: &mut [[u64; 6]; 64],
+    out: &mut [u64; 6],
 ) -> Level
-    requires { ⌜ (paramsOk p ≡ true) × (m ≤ 63) × (suc (p .t) + 2 * e ≤ m) × Ordered (p .n) (sharesOf (p .d) m holders shares)
-        × InWidth (p .k) (p .d) (sharesOf (p .d) m holders shares) ⌝ }
-    ensures level { λ r. ⌜ r ≡ answer (p .k) (p .d) (sharesOf (p .d) m holders shares) (codeword (p .k) (p .d) (p .t) e (sharesOf (p .d) m holders shares)) ⌝ }
-    ensures out { λ _. ⌜ now (out .exit) ≡ stored (p .d) (codeword (p .k) (p .d) (p .t) e (sharesOf (p .d) m holders shares)) (now (out .entry)) ⌝ }
+    requires { ⌜ (paramsOk p ≡ true) × (m ≤ 63) × (suc (p .t) + 2 * e ≤ m) × Ordered (p .n) (sharesOf (p .d) m (now holders) (now shares))
+        × InWidth (p .k) (p .d) (sharesOf (p .d) m (now holders) (now shares)) × (length (now holders) ≡ 63) × (length (now shares) ≡ 63) ⌝ }
+    ensures level { λ r. ⌜ r ≡ answer (p .k) (p .d) (sharesOf (p .d) m (now (holders .entry)) (now (shares .entry)))
+        (codeword (p .k) (p .d) (p .t) e (sharesOf (p .d) m (now (holders .entry)) (now (shares .entry)))) ⌝ }
+    ensures out { λ _. ⌜ now (out .exit) ≡ storedSecret (p .d) (codeword (p .k) (p .d) (p .t) e
+        (sharesOf (p .d) m (now (holders .entry)) (now (shares .entry)))) (now (out .entry)) ⌝ }
 {
     let low = ring::lower_of(p.d);
     search(p.k, p.d, low, p.t, m, holders, shares, e, out)

@@ -6,7 +6,7 @@ ghost use lib.ListN.{length, drop, replicate};
 ghost use Rattle.records.specs.Layout.{headSize, jobSize, fileSize, orderSize};
 ghost use Rattle.records.specs.Record.{headingOf};
 ghost use Rattle.bundle.specs.Bundle.{numOf, bundleFault, bundleHeading, filesOf, fileAt, jobAt};
-ghost use Rattle.bundle.specs.Contents.{wordsFrom, wordsOf};
+ghost use Rattle.bundle.specs.Contents.{wordsFrom};
 ghost use Rattle.fetch.specs.Fetch.{foundOf, bodyFault, bodyOf};
 use bundle::Checked;
 use records::Heading;
@@ -94,7 +94,7 @@ pub fn fetch_body(bytes: &[u8], holder: usize, p: usize) -> &[u8]
 }
 
 // The d words of 8 bytes each from a position.
-fn load_words(bytes: &[u8], at: usize, d: usize) -> [u64; 6]
+pub fn load_words(bytes: &[u8], at: usize, d: usize) -> [u64; 6]
     requires { ⌜ (d ≤ 6) × (at + 8 * d ≤ length (now bytes)) ⌝ }
     ensures { λ r. ⌜ r ≡ wordsFrom 8 (now (bytes .entry)) d at ++ drop d (replicate 6 0) ⌝ }
 {
@@ -102,21 +102,11 @@ fn load_words(bytes: &[u8], at: usize, d: usize) -> [u64; 6]
     let mut i: usize = 0;
     let mut here = at;
     while i < d {
-        words[i] = records::number(bytes, here, records::WORD_SIZE);
+        words[i] = records::word_at(bytes, here);
         here += records::WORD_SIZE;
         i += 1;
     }
     words
-}
-
-// The words of job p of file f of an accepted bundle, by its first heading.
-pub fn job_words(bytes: &[u8], h: Heading, f: usize, p: usize) -> [u64; 6]
-    requires { ⌜ (bundleFault (now bytes) ≡ 0) × (h ≡ bundleHeading (now bytes)) × (f < filesOf (now bytes)) × (p < h .jobs) ⌝ }
-    ensures { λ r. ⌜ r ≡ wordsOf (now (bytes .entry)) f p ++ drop (h .params .d) (replicate 6 0) ⌝ }
-{
-    let at = job_at(h, f, p) + records::PREFIX_SIZE + records::NUMBER_SIZE;
-    let d = h.params.d;
-    load_words(bytes, at, d)
 }
 
 // The number of the job at place p of an accepted bundle, by its first heading.
@@ -124,11 +114,7 @@ pub fn job_number(bytes: &[u8], h: Heading, p: usize) -> u64
     requires { ⌜ (bundleFault (now bytes) ≡ 0) × (h ≡ bundleHeading (now bytes)) × (p < h .jobs) ⌝ }
     ensures { λ r. ⌜ r ≡ numOf (now (bytes .entry)) (jobAt (now (bytes .entry)) 0 p) ⌝ }
 {
-    records::number(
-        bytes,
-        job_at(h, 0, p) + records::PREFIX_SIZE,
-        records::NUMBER_SIZE,
-    )
+    records::word_at(bytes, job_at(h, 0, p) + records::PREFIX_SIZE)
 }
 
 // The holder of file f of an accepted bundle, by its first heading.

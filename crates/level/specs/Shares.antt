@@ -5,7 +5,7 @@ use mathlib.Core.List.{List, [], _∷_, _++_, map}
 use Prim.Native.Nat.{ℕ, zero, suc, _-_, _/_, _%_, _^_, _≤_, _<_}
 use lib.Bits.{bitOr}
 use lib.Dec.{eqb}
-use lib.ListN.{length, take, drop, getD, replicate}
+use lib.ListN.{length, take, drop, getD}
 use Rattle.algebra.specs.Shares.{All}
 use Rattle.ring.specs.Element.{Element, held}
 use Rattle.polynomial.specs.Rows.{Rows}
@@ -31,12 +31,12 @@ sharesOf d m hs ys = sharesFrom d hs ys 0 m
 abbrev pub Sized : ℕ → List Share → Type 0
 Sized d = All (λ (s : Share). length (s .words) ≡ d)
 
--- what a polynomial leaves of shares, in the first of 63 rows
+-- what a polynomial leaves of shares, in rows of an array: of all after the first n, each in its row, and the other rows of r as they are
 abbrev pub residueRow : ℕ → ℕ → Polynomial → Share → List ℕ
 residueRow k d p s = held d (residue k d p s)
 
-abbrev pub residuesOf : ℕ → ℕ → Polynomial → List Share → Rows
-residuesOf k d p ss = map (residueRow k d p) ss ++ drop (length ss) (replicate 63 (replicate 6 0))
+abbrev pub residueRows : ℕ → ℕ → Polynomial → ℕ → List Share → Rows → Rows
+residueRows k d p n ss r = take n r ++ map (residueRow k d p) (drop n ss) ++ drop (length ss) r
 
 -- the first m holders are numbers that a set of 64 bits has room for
 abbrev pub Numbered : ℕ → List ℕ → Type 0

@@ -1,4 +1,4 @@
-// The field decoder: which shares differ from the codeword of one bit of what a polynomial leaves of them.
+// What a polynomial leaves of shares, and the field decoder: which shares differ from the codeword of one bit of them.
 //
 // Shares are two arrays, of holders and of elements, of which the first m count. No polynomial over the field is formed: of each the values
 // at the shares' points are kept, those of all shares at once, in bit slices, lane i for share i. The key equation of Welch and Berlekamp is
@@ -7,16 +7,16 @@ ghost use mathlib.Core.Path.{_≡_};
 ghost use mathlib.Core.List.{map};
 ghost use Prim.Native.Nat.{suc, _+_, _*_, _≤_, _<_};
 ghost use lib.Dec.{leb};
-ghost use lib.ListN.{take};
+ghost use lib.ListN.{length, take};
 ghost use Rattle.algebra.proofs.KeyEquation.{pivot};
 ghost use Rattle.ring.specs.Element.{held, lower};
 ghost use Rattle.polynomial.specs.Rows.{Shaped, coefs};
 ghost use Rattle.codewords.specs.Codeword.{codeword};
-ghost use Rattle.codewords.specs.Residue.{residue, atBit};
+ghost use Rattle.codewords.specs.Residue.{residue, bitShare};
 ghost use Rattle.codewords.specs.WellFormed.{Holders};
 ghost use Rattle.sliced.specs.Lane.{supportOf};
 ghost use Rattle.level.specs.Level.{levelOf};
-ghost use Rattle.level.specs.Shares.{share, sharesOf, Sized, Numbered, holderSet, residuesOf};
+ghost use Rattle.level.specs.Shares.{share, sharesOf, Sized, Numbered, holderSet, residueRows};
 ghost use Rattle.level.specs.KeyEquation.{leadOf, zeroAt, mixLanes, swapped, raised, stepLanes, startLanes, runLanes};
 ghost use Rattle.level.specs.Interpolation.{trustLanes, startNewton, gatherLanes};
 
@@ -53,7 +53,7 @@ struct Newton {
 }
 
 // What the polynomial p leaves of holder x's share y.
-pub fn residue(
+fn residue(
     k: u64,
     d: usize,
     low: [u64; 6],
@@ -69,8 +69,8 @@ pub fn residue(
     ring::keep(d, ring::difference(k, y, v))
 }
 
-// The same of all shares.
-fn residues(
+// The same of the shares after the first t + 1, each in its row of `rest`: p goes through the first t + 1, and of these nothing is left.
+pub fn residues(
     k: u64,
     d: usize,
     low: [u64; 6],
@@ -79,17 +79,18 @@ fn residues(
     m: usize,
     hs: &[u64; 63],
     ys: &[[u64; 6]; 63],
-) -> [[u64; 6]; 63]
-    requires { ⌜ ((1 ≤ k) × (k ≤ 64)) × ((2 ≤ d) × (d ≤ 6)) × (low ≡ held d (lower d)) × (t ≤ 62) × (m ≤ 63) ⌝ }
-    ensures { λ r. ⌜ r ≡ residuesOf k d (coefs d (suc t) p) (sharesOf d m (now (hs .entry)) (now (ys .entry))) ⌝ }
+    rest: &mut [[u64; 6]; 63],
+)
+    requires { ⌜ ((1 ≤ k) × (k ≤ 64)) × ((2 ≤ d) × (d ≤ 6)) × (low ≡ held d (lower d)) × (t ≤ 62) × (m ≤ 63) × (suc t ≤ m)
+        × (length (now rest) ≡ 63) ⌝ }
+    ensures { λ _. ⌜ now (rest .exit) ≡ residueRows k d (coefs d (suc t) p) (suc t) (sharesOf d m (now (hs .entry)) (now (ys .entry)))
+        (now (rest .entry)) ⌝ }
 {
-    let mut r = [[0u64; 6]; 63];
-    let mut i = 0;
+    let mut i = t + 1;
     while i < m {
-        r[i] = residue(k, d, low, &p, t, hs[i], ys[i]);
+        rest[i] = residue(k, d, low, &p, t, hs[i], ys[i]);
         i += 1;
     }
-    r
 }
 
 // Whether lane i is zero.
@@ -101,11 +102,25 @@ fn zero_at(d: usize, a: [u64; 6], i: u64) -> bool
 }
 
 // c a + e b.
-fn mix(d: usize, low: [u64; 6], c: [u64; 6], a: [u64; 6], e: [u64; 6], b: [u64; 6]) -> [u64; 6]
+fn mix_by(d: usize, low: [u64; 6], c: [u64; 6], a: [u64; 6], e: [u64; 6], b: [u64; 6]) -> [u64; 6]
     requires { ⌜ ((2 ≤ d) × (d ≤ 6)) × (low ≡ held d (lower d)) ⌝ }
     ensures { λ r. ⌜ r ≡ mixLanes d c a e b ⌝ }
 {
     sliced::plus(sliced::times(d, low, c, a), sliced::times(d, low, e, b))
+}
+
+// The same, with code for each d.
+fn mix(d: usize, low: [u64; 6], c: [u64; 6], a: [u64; 6], e: [u64; 6], b: [u64; 6]) -> [u64; 6]
+    requires { ⌜ ((2 ≤ d) × (d ≤ 6)) × (low ≡ held d (lower d)) ⌝ }
+    ensures { λ r. ⌜ r ≡ mixLanes d c a e b ⌝ }
+{
+    match d {
+        2 => mix_by(2, low, c, a, e, b),
+        3 => mix_by(3, low, c, a, e, b),
+        4 => mix_by(4, low, c, a, e, b),
+        5 => mix_by(5, low, c, a, e, b),
+        _ => mix_by(6, low, c, a, e, b),
+    }
 }
 
 // The pair of the lower degree is multiplied, if its gap is not zero.
@@ -274,26 +289,23 @@ fn holder_set(lanes: u64, m: usize, hs: &[u64; 63]) -> u64
     w
 }
 
-// The field decoder at bit v of what the polynomial p leaves of the shares.
+// The field decoder at bit v of the shares.
 pub fn decide(
-    k: u64,
     d: usize,
     low: [u64; 6],
-    p: [[u64; 6]; 64],
     v: u64,
     t: usize,
     m: usize,
     hs: &[u64; 63],
-    ys: &[[u64; 6]; 63],
+    rest: &[[u64; 6]; 63],
     e: u64,
 ) -> Level
-    requires { ⌜ ((1 ≤ k) × (k ≤ 64)) × ((2 ≤ d) × (d ≤ 6)) × (low ≡ held d (lower d)) × (v < 64) × (t ≤ 62) × (m ≤ 63)
-        × Holders d (sharesOf d m (now hs) (now ys)) × Sized d (sharesOf d m (now hs) (now ys)) × (suc t + 2 * e ≤ m) ⌝ }
-    ensures { λ r. ⌜ r ≡ levelOf d (map (atBit k d (coefs d (suc t) p) v) (sharesOf d m (now (hs .entry)) (now (ys .entry))))
-        (codeword 1 d t e (map (atBit k d (coefs d (suc t) p) v) (sharesOf d m (now (hs .entry)) (now (ys .entry))))) ⌝ }
+    requires { ⌜ ((2 ≤ d) × (d ≤ 6)) × (low ≡ held d (lower d)) × (v < 64) × (t ≤ 62) × (m ≤ 63)
+        × Holders d (sharesOf d m (now hs) (now rest)) × Sized d (sharesOf d m (now hs) (now rest)) × (suc t + 2 * e ≤ m) ⌝ }
+    ensures { λ r. ⌜ r ≡ levelOf d (map (bitShare v) (sharesOf d m (now (hs .entry)) (now (rest .entry))))
+        (codeword 1 d t e (map (bitShare v) (sharesOf d m (now (hs .entry)) (now (rest .entry))))) ⌝ }
 {
-    let rest = residues(k, d, low, p, t, m, hs, ys);
-    let y = sliced::slice(v, m, &rest);
+    let y = sliced::slice(v, m, rest);
     let x = sliced::points(m, hs);
     let trusted = locate(d, low, x, y, t, m);
     let s = gather(d, low, x, y, t, m, trusted);

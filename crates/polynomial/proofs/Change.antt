@@ -9,6 +9,7 @@ use lib.ListN.{length, take, drop, getD, take-append-drop}
 use lib.Seq.{paste}
 use Rattle.algebra.specs.Ring.{CommRing}
 use Rattle.algebra.specs.Poly.{coef}
+use Rattle.algebra.specs.Shares.{All}
 use Rattle.algebra.proofs.Ring.{mul-zero, one-mul, add-zero, neg-mul}
 use Rattle.algebra.proofs.Poly.{Low, Same, lin, mulx, padd, scale, coef-lin, coef-padd, coef-scale, low-tail, low-shift, low-mono}
 use Rattle.polynomial.specs.Rows.{change}
@@ -42,14 +43,30 @@ module _ {A : Type 0} (f : A → A → A) where
   pub change-paste : (n : ℕ) (u p : List A) → paste p 0 (change f n u p) n ≡ change f n u p
   change-paste n u p = rw zero-add (rest n u p)
 
--- a map that takes one function to the other
+-- what the function keeps, and a map that takes one function to the other, where all members are of a kind
+module _ {A : Type 0} (P : A → Type 0) where
+  pub change-all : (f : A → A → A) → ((b a : A) → P b → P a → P (f b a)) → (n : ℕ) (u p : List A) → All P u → All P p → All P (change f n u p)
+  unfolding change
+  change-all f e zero u p hu hp = hp
+  change-all f e (suc n) [] p hu hp = hp
+  change-all f e (suc n) (b ∷ u) [] hu hp = tt
+  change-all f e (suc n) (b ∷ u) (a ∷ p) hu hp = (e b a (hu .0) (hp .0), change-all f e n u p (hu .1) (hp .1))
+
+  pub change-map-all : {B : Type 0} (h : A → B) (g : A → A → A) (f : B → B → B) → ((b a : A) → P b → P a → f (h b) (h a) ≡ h (g b a))
+      → (n : ℕ) (u p : List A) → All P u → All P p → change f n (map h u) (map h p) ≡ map h (change g n u p)
+  unfolding change
+  change-map-all h g f e zero u p hu hp = refl
+  change-map-all h g f e (suc n) [] p hu hp = refl
+  change-map-all h g f e (suc n) (b ∷ u) [] hu hp = refl
+  change-map-all h g f e (suc n) (b ∷ u) (a ∷ p) hu hp = ap₂ _∷_ (e b a (hu .0) (hp .0)) (change-map-all h g f e n u p (hu .1) (hp .1))
+
 pub change-map : {A B : Type 0} (h : A → B) (g : A → A → A) (f : B → B → B) → ((b a : A) → f (h b) (h a) ≡ h (g b a))
     → (n : ℕ) (u p : List A) → change f n (map h u) (map h p) ≡ map h (change g n u p)
-unfolding change
-change-map h g f e zero u p = refl
-change-map h g f e (suc n) [] p = refl
-change-map h g f e (suc n) (b ∷ u) [] = refl
-change-map h g f e (suc n) (b ∷ u) (a ∷ p) = ap₂ _∷_ (e b a) (change-map h g f e n u p)
+change-map {A} h g f e n u p = change-map-all (λ a. Unit {0}) h g f (λ b a _ _. e b a) n u p (any u) (any p)
+  where
+    any : (xs : List A) → All (λ a. Unit {0}) xs
+    any [] = tt
+    any (x ∷ xs) = (tt, any xs)
 
 module _ (R : CommRing) where
   infixl 65 _⊕_

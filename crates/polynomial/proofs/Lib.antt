@@ -1,4 +1,5 @@
 pub mod Change
+pub mod Narrow
 pub mod Newton
 pub mod OverRing
 pub mod Shape

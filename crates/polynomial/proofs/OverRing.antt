@@ -10,13 +10,15 @@ use lib.Seq.{length-take-le}
 use Rattle.algebra.specs.Ring.{CommRing}
 use Rattle.algebra.specs.Poly.{eval, coef}
 use Rattle.algebra.specs.Shares.{All}
+use Rattle.algebra.proofs.Ring.{mul-zero, add-zero}
 use Rattle.algebra.proofs.Vec.{cons}
 use Rattle.algebra.proofs.Poly.{Low, Same, lin, mulx, eval-same, same-take}
 use Rattle.ring.specs.Element.{Element, sum, difference, lower, product, oneE, reduce, held}
 use Rattle.ring.proofs.Zmod.{word}
 use Rattle.ring.proofs.Galois.{GR}
 use Rattle.ring.proofs.Table.{length-lower}
-use Rattle.ring.proofs.Lists.{toList, ofList, length-toList, of-to, sum-of, difference-to, product-of, zero-of, one-of, length-reduce, of-reduce, reduce-product, product-same}
+use Rattle.ring.proofs.Lists.{toList, ofList, length-toList, of-to, to-of, sum-of, difference-to, product-of, zero-of, one-of}
+use Rattle.ring.proofs.Lists.{length-reduce, of-reduce, reduce-product, product-same}
 use Rattle.ring.proofs.Held.{held-take, held-length, zeros-held, to-six}
 use Rattle.ring.proofs.Narrow.{reduce-zeros, reduce-sum, reduce-held, sum-reduce}
 use Rattle.polynomial.specs.Polynomial.{Polynomial, value}
@@ -81,9 +83,6 @@ module _ (k d : ℕ) where
       go [] = tt
       go (u ∷ us) = (length-row h u, go us)
 
-  pub exact-shaped : d ≤ 6 → (p : Rows) → Exact p → length p ≡ 64 → Shaped p
-  exact-shaped h p e l = shaped-by p (exact-length h p e) l
-
   -- the rows of the zero polynomial, and of one
   pub zero-rows : d ≤ 6 → (n : ℕ) → replicate n (replicate 6 0) ≡ map row (replicate n (GR d k .𝟘))
   zero-rows h zero = refl
@@ -91,15 +90,6 @@ module _ (k d : ℕ) where
 
   pub one-rows : 1 ≤ k → 1 ≤ d → d ≤ 6 → (n : ℕ) → (1 ∷ replicate 5 0) ∷ replicate n (replicate 6 0) ≡ map row (GR d k .𝟙 ∷ replicate n (GR d k .𝟘))
   one-rows h l m n = ap₂ _∷_ (sym (row-one h l m)) (zero-rows m n)
-
-  -- a row of an element in a place
-  pub exact-set : (p : Rows) (i : ℕ) (u : GR d k .E) → Exact p → Exact (set p i (row u))
-  exact-set p i u e = ap (λ q. map row (polyOf (set q i (row u)))) (sym e) ∙ go (polyOf p) i ∙ ap (λ q. set q i (row u)) e
-    where
-      go : (us : List (GR d k .E)) (i : ℕ) → map row (polyOf (set (map row us) i (row u))) ≡ set (map row us) i (row u)
-      go [] i = refl
-      go (v ∷ us) zero = ap₂ _∷_ (ap row (of-row u)) (exact-rows us)
-      go (v ∷ us) (suc i) = ap₂ _∷_ (ap row (of-row v)) (go us i)
 
   -- the polynomial of rows that are long enough
   poly-coefs : (n : ℕ) (p : Rows) → polyOf (coefs d n p) ≡ take n (polyOf p)
@@ -132,6 +122,14 @@ module _ (k d : ℕ) where
         ∙ ap (sum k c) (product-row x v m)
         ∙ sum-of k d c (toList w) l (length-toList w)
         ∙ ap (λ r. toList (ofList k d c ⊕ r)) (of-to k w)
+
+    -- of one coefficient
+    pub value-last : (c x : Element) → length c ≡ d → length x ≡ d → value k d (c ∷ []) x ≡ reduce k c
+    value-last c x l m =
+        value-of (c ∷ []) x (l, tt) m
+        ∙ ap (λ v. toList (ofList k d c ⊕ v)) (mul-zero (GR d k) (ofList k d x))
+        ∙ ap toList (add-zero (GR d k) (ofList k d c))
+        ∙ to-of k d c l
 
     -- the value of the first n rows
     pub value-rows : (n : ℕ) (p : Rows) (x : Element) → All (λ r. length r ≡ 6) p → length x ≡ d
@@ -192,24 +190,31 @@ module _ (k d : ℕ) where
           ap (λ us. coef (GR d k) us j) (poly-by (rootRows k d n x p) (change rootOf n (𝟘 ∷ polyOf p) (polyOf p)) root-rows)
           ∙ change-mulx (GR d k) (ofList k d x) n m (polyOf p) l (rw (length-map p (ofList k d)) h) low j
 
+-- a product depends on its second factor's words modulo 2^k alone
+pub product-reduce : (k d : ℕ) → 2 ≤ d → d ≤ 6 → (a b : Element) → length a ≡ d → length b ≡ d
+    → product k (lower d) a (reduce k b) ≡ product k (lower d) a b
+product-reduce k d dl dh a b l m =
+    product-same k d (lower d) (length-lower d dl dh) a (reduce k b) a b l (length-reduce k b ∙ m) l m refl (of-reduce (le-refl k) d b)
+
 -- fewer bits of a value
 reduce-value : {j k : ℕ} → j ≤ k → (d : ℕ) → 2 ≤ d → d ≤ 6 → (cs : Polynomial) (x : Element) → All (λ c. length c ≡ d) cs → length x ≡ d
     → reduce j (value k d cs x) ≡ value j d cs x
 unfolding value
 reduce-value {j} h d dl dh [] x l m = reduce-zeros j d
 reduce-value {j} {k} h d dl dh (c ∷ cs) x (l, ls) m =
-    let hl : length (lower d) ≡ d = length-lower d dl dh in
     let v = value k d cs x in
     let hv : length v ≡ d = ap length (value-of k d dl dh cs x ls m) ∙ length-toList (eval (GR d k) (polyOf k d cs) (ofList k d x)) in
     reduce-sum h c (product k (lower d) x v)
     ∙ sym (sum-reduce j c (product k (lower d) x v))
     ∙ ap (sum j c)
-    (reduce-product h d (lower d) hl x v m hv
-    ∙ product-same j d (lower d) hl x v x (reduce j v) m hv m (length-reduce j v ∙ hv) refl (sym (of-reduce (le-refl j) d v))
+    (reduce-product h d (lower d) (length-lower d dl dh) x v m hv
+    ∙ sym (product-reduce j d dl dh x v m hv)
     ∙ ap (product j (lower d) x) (reduce-value h d dl dh cs x ls m))
 
-pub narrow-value : {j k : ℕ} → j ≤ k → (d : ℕ) → 2 ≤ d → d ≤ 6 → (n : ℕ) (p : Rows) (x : Element) → All (λ r. length r ≡ 6) p → length x ≡ d
-    → reduce j (held d (value k d (coefs d n p) x)) ≡ held d (value j d (coefs d n p) x)
-narrow-value {j} {k} h d dl dh n p x l m =
-    reduce-held j d (value k d (coefs d n p) x) (value-length k d dl dh n p x l m) dh
-    ∙ ap (held d) (reduce-value h d dl dh (coefs d n p) x (coefs-length k d dh n p l) m)
+module _ {j k : ℕ} (h : j ≤ k) (d : ℕ) (dl : 2 ≤ d) (dh : d ≤ 6) (n : ℕ) (p : Rows) (x : Element)
+    (l : All (λ r. length r ≡ 6) p) (m : length x ≡ d) where
+  pub value-reduced : reduce j (value k d (coefs d n p) x) ≡ value j d (coefs d n p) x
+  value-reduced = reduce-value h d dl dh (coefs d n p) x (coefs-length k d dh n p l) m
+
+  pub narrow-value : reduce j (held d (value k d (coefs d n p) x)) ≡ held d (value j d (coefs d n p) x)
+  narrow-value = reduce-held j d (value k d (coefs d n p) x) (value-length k d dl dh n p x l m) dh ∙ ap (held d) value-reduced

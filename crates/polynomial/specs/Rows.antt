@@ -3,7 +3,7 @@ use mathlib.Core.Path.{_≡_}
 use mathlib.Core.List.{List, [], _∷_, map}
 use Prim.Native.Nat.{ℕ, zero, suc, _+_}
 use lib.ListN.{length, take, replicate}
-use Rattle.ring.specs.Element.{Element, difference, lower, product, inverse, held}
+use Rattle.ring.specs.Element.{Element, difference, lower, product, inverse, held, reduce}
 use Rattle.polynomial.specs.Polynomial.{Polynomial, value}
 
 abbrev pub Rows : Type 0
@@ -16,6 +16,10 @@ Shaped p = map length p ≡ replicate 64 6
 -- the polynomial of the first n rows
 abbrev pub coefs : ℕ → ℕ → Rows → Polynomial
 coefs d n p = map (take d) (take n p)
+
+-- each word of each row modulo 2^k
+abbrev pub reduceRows : ℕ → Rows → Rows
+reduceRows k = map (reduce k)
 
 -- p with its first n members changed, each to the function's value at u's member in the same place and at itself
 unfoldable pub change : {A : Type 0} → (A → A → A) → ℕ → List A → List A → List A

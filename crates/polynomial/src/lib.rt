@@ -4,15 +4,19 @@ ghost use Prim.Native.Nat.{_+_, _≤_};
 ghost use lib.ListN.{take};
 ghost use Rattle.ring.specs.Element.{held, lower, point};
 ghost use Rattle.polynomial.specs.Polynomial.{value};
-ghost use Rattle.polynomial.specs.Rows.{Shaped, coefs, subtractRows, rootRows, extendRows};
+ghost use Rattle.polynomial.specs.Rows.{Shaped, coefs, subtractRows, rootRows, extendRows, reduceRows};
 
-// The value at holder x's point of the polynomial of the first len rows, in words of 64 bits, by Horner's rule: shifts and sums only.
+// The value at holder x's point of the polynomial of the first len rows, in words of 64 bits: Horner's rule
+// from the last row down, shifts and sums only.
 fn horner(d: usize, low: [u64; 6], p: &[[u64; 6]; 64], len: usize, x: u64) -> [u64; 6]
     requires { ⌜ ((2 ≤ d) × (d ≤ 6)) × (low ≡ held d (lower d)) × (len ≤ 64) × Shaped (now p) ⌝ }
     ensures { λ r. ⌜ r ≡ held d (value 64 d (coefs d len (now (p .entry))) (point d x)) ⌝ }
 {
-    let mut r = [0u64; 6];
-    let mut i = len;
+    if len == 0 {
+        return [0; 6];
+    }
+    let mut i = len - 1;
+    let mut r = p[i];
     while 0 < i {
         i -= 1;
         let s = ring::product_by_point(64, d, low, r, x);
@@ -43,17 +47,8 @@ pub fn eval(k: u64, d: usize, low: [u64; 6], p: &[[u64; 6]; 64], len: usize, x: 
     ring::reduce(k, eval64(d, low, p, len, x))
 }
 
-// The same of a polynomial lent by value.
-pub fn value_at(k: u64, d: usize, low: [u64; 6], p: [[u64; 6]; 64], len: usize, x: u64) -> [u64; 6]
-    requires { ⌜ ((1 ≤ k) × (k ≤ 64)) × ((2 ≤ d) × (d ≤ 6)) × (low ≡ held d (lower d)) × (len ≤ 64) ⌝ }
-    ensures { λ r. ⌜ r ≡ held d (value k d (coefs d len p) (point d x)) ⌝ }
-{
-    eval(k, d, low, &p, len, x)
-}
-
-// p := p - e q, in the first len rows.
-pub fn subtract_multiple(
-    k: u64,
+// p := p - e q in words of 64 bits, in the first len rows.
+fn subtract_by(
     d: usize,
     low: [u64; 6],
     p: &mut [[u64; 6]; 64],
@@ -61,35 +56,70 @@ pub fn subtract_multiple(
     q: &[[u64; 6]; 64],
     len: usize,
 )
-    requires { ⌜ ((1 ≤ k) × (k ≤ 64)) × ((2 ≤ d) × (d ≤ 6)) × (low ≡ held d (lower d)) × (len ≤ 64) × Shaped (now p) × Shaped (now q) ⌝ }
-    ensures { λ _. ⌜ now (p .exit) ≡ subtractRows k d len (now (p .entry)) (take d e) (now (q .entry)) ⌝ }
+    requires { ⌜ ((2 ≤ d) × (d ≤ 6)) × (low ≡ held d (lower d)) × (len ≤ 64) × Shaped (now p) × Shaped (now q) ⌝ }
+    ensures { λ _. ⌜ now (p .exit) ≡ subtractRows 64 d len (now (p .entry)) (take d e) (now (q .entry)) ⌝ }
 {
     let mut i = 0;
     while i < len {
-        let v = ring::product(k, d, low, e, q[i]);
-        p[i] = ring::keep(d, ring::difference(k, p[i], v));
+        let v = ring::product(64, d, low, e, q[i]);
+        p[i] = ring::keep(d, ring::difference(64, p[i], v));
         i += 1;
     }
 }
 
-// p := (Z - x) p, in the first len rows, x being holder x's point.
-pub fn root(k: u64, d: usize, low: [u64; 6], p: &mut [[u64; 6]; 64], x: u64, len: usize)
-    requires { ⌜ ((1 ≤ k) × (k ≤ 64)) × ((2 ≤ d) × (d ≤ 6)) × (low ≡ held d (lower d)) × (len ≤ 64) × Shaped (now p) ⌝ }
-    ensures { λ _. ⌜ now (p .exit) ≡ rootRows k d len (point d x) (now (p .entry)) ⌝ }
+// The same, with code for each d.
+fn subtract_multiple(
+    d: usize,
+    low: [u64; 6],
+    p: &mut [[u64; 6]; 64],
+    e: [u64; 6],
+    q: &[[u64; 6]; 64],
+    len: usize,
+)
+    requires { ⌜ ((2 ≤ d) × (d ≤ 6)) × (low ≡ held d (lower d)) × (len ≤ 64) × Shaped (now p) × Shaped (now q) ⌝ }
+    ensures { λ _. ⌜ now (p .exit) ≡ subtractRows 64 d len (now (p .entry)) (take d e) (now (q .entry)) ⌝ }
+{
+    match d {
+        2 => subtract_by(2, low, p, e, q, len),
+        3 => subtract_by(3, low, p, e, q, len),
+        4 => subtract_by(4, low, p, e, q, len),
+        5 => subtract_by(5, low, p, e, q, len),
+        _ => subtract_by(6, low, p, e, q, len),
+    }
+}
+
+// p := (Z - x) p in words of 64 bits, in the first len rows, x being holder x's point.
+fn root_by(d: usize, low: [u64; 6], p: &mut [[u64; 6]; 64], x: u64, len: usize)
+    requires { ⌜ ((2 ≤ d) × (d ≤ 6)) × (low ≡ held d (lower d)) × (len ≤ 64) × Shaped (now p) ⌝ }
+    ensures { λ _. ⌜ now (p .exit) ≡ rootRows 64 d len (point d x) (now (p .entry)) ⌝ }
 {
     let mut below = [0u64; 6];
     let mut i = 0;
     while i < len {
         let c = p[i];
-        let v = ring::product_by_point(k, d, low, c, x);
-        p[i] = ring::keep(d, ring::difference(k, below, v));
+        let v = ring::product_by_point(64, d, low, c, x);
+        p[i] = ring::keep(d, ring::difference(64, below, v));
         below = c;
         i += 1;
     }
 }
 
+// The same, with code for each d.
+fn root(d: usize, low: [u64; 6], p: &mut [[u64; 6]; 64], x: u64, len: usize)
+    requires { ⌜ ((2 ≤ d) × (d ≤ 6)) × (low ≡ held d (lower d)) × (len ≤ 64) × Shaped (now p) ⌝ }
+    ensures { λ _. ⌜ now (p .exit) ≡ rootRows 64 d len (point d x) (now (p .entry)) ⌝ }
+{
+    match d {
+        2 => root_by(2, low, p, x, len),
+        3 => root_by(3, low, p, x, len),
+        4 => root_by(4, low, p, x, len),
+        5 => root_by(5, low, p, x, len),
+        _ => root_by(6, low, p, x, len),
+    }
+}
+
 // One share more in Newton's interpolation: q goes through len shares, and nodal is the product of the Z - x over their points. After it
-// both have holder x's share y too.
+// both have holder x's share y too. Words of 64 bits, of which the lowest k count; only the inverse is taken at k bits.
 pub fn extend(
     k: u64,
     d: usize,
@@ -101,13 +131,15 @@ pub fn extend(
     y: [u64; 6],
 )
     requires { ⌜ ((1 ≤ k) × (k ≤ 64)) × ((2 ≤ d) × (d ≤ 6)) × (low ≡ held d (lower d)) × (len ≤ 62) × Shaped (now q) × Shaped (now nodal) ⌝ }
-    ensures { λ _. ⌜ (now (q .exit) ≡ extendRows k d len (now (q .entry)) (now (nodal .entry)) (point d x) (take d y))
-        × (now (nodal .exit) ≡ rootRows k d (len + 2) (point d x) (now (nodal .entry))) ⌝ }
+    ensures { λ _. ⌜ (reduceRows k (now (q .exit))
+        ≡ extendRows k d len (reduceRows k (now (q .entry))) (reduceRows k (now (nodal .entry))) (point d x) (take d y))
+        × (reduceRows k (now (nodal .exit)) ≡ rootRows k d (len + 2) (point d x) (reduceRows k (now (nodal .entry))))
+        × Shaped (now (q .exit)) × Shaped (now (nodal .exit)) ⌝ }
 {
-    let v = eval(k, d, low, q, len, x);
-    let w = eval(k, d, low, nodal, len + 1, x);
+    let v = eval64(d, low, q, len, x);
+    let w = eval64(d, low, nodal, len + 1, x);
     let i = ring::inverse_of(k, d, low, w);
-    let c = ring::product(k, d, low, ring::difference(k, v, y), i);
-    subtract_multiple(k, d, low, q, c, nodal, len + 1);
-    root(k, d, low, nodal, x, len + 2);
+    let c = ring::product(64, d, low, ring::difference(64, v, y), i);
+    subtract_multiple(d, low, q, c, nodal, len + 1);
+    root(d, low, nodal, x, len + 2);
 }

@@ -13,27 +13,37 @@ use Rattle.records.specs.Layout.{plainLen, recordSize, headKind, headLen
 use Rattle.records.specs.Layout.{orderLen, jobLenKnown, known, fileSize}
 use Rattle.records.specs.declared.Heading.{Heading}
 
--- no kind has a length below 3
-pub known-low : (kind len : ℕ) → len < 3 → known kind len ≡ false
+-- every kind has lengths from 3 to 58
+known-out : (kind len : ℕ) → ((n : ℕ) → 3 ≤ n → n ≤ 58 → len ≡ n → ⊥) → known kind len ≡ false
 unfolding known jobLenKnown jobLenOf
-known-low kind len h =
+known-out kind len h =
     simp (
-      ne-eqb len plainLen (omega arith),
-      ne-eqb len (jobLenOf 8 2) (omega arith),
-      ne-eqb len (jobLenOf 8 3) (omega arith),
-      ne-eqb len (jobLenOf 8 4) (omega arith),
-      ne-eqb len (jobLenOf 8 5) (omega arith),
-      ne-eqb len (jobLenOf 8 6) (omega arith),
-      ne-eqb len orderLen (omega arith),
+      ne-eqb len plainLen (h plainLen (omega arith) (omega arith)),
+      ne-eqb len (jobLenOf 8 2) (h (jobLenOf 8 2) (omega arith) (omega arith)),
+      ne-eqb len (jobLenOf 8 3) (h (jobLenOf 8 3) (omega arith) (omega arith)),
+      ne-eqb len (jobLenOf 8 4) (h (jobLenOf 8 4) (omega arith) (omega arith)),
+      ne-eqb len (jobLenOf 8 5) (h (jobLenOf 8 5) (omega arith) (omega arith)),
+      ne-eqb len (jobLenOf 8 6) (h (jobLenOf 8 6) (omega arith) (omega arith)),
+      ne-eqb len orderLen (h orderLen (omega arith) (omega arith)),
       and-false,
       or-false,
     )
+
+pub known-low : (kind len : ℕ) → len < 3 → known kind len ≡ false
+known-low kind len h = known-out kind len (λ n l u e. omega arith)
 
 pub known-min : (kind len : ℕ) → known kind len ≡ true → 3 ≤ len
 known-min kind len e =
     elim (decLe 3 len) [
       | yes h ↦ h
       | no h ↦ true-false (sym e ∙ known-low kind len (omega arith))
+    ]
+
+pub known-max : (kind len : ℕ) → known kind len ≡ true → len ≤ 58
+known-max kind len e =
+    elim (decLe len 58) [
+      | yes h ↦ h
+      | no h ↦ true-false (sym e ∙ known-out kind len (λ n l u q. omega arith))
     ]
 
 -- the lengths of a job record: 10 and the words, with 2 to 6 words

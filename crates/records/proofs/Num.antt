@@ -101,3 +101,27 @@ pub number-small : (bs : List ℕ) (at w i : ℕ) → Bytes bs → w ≤ 8 → 0
 number-small bs at w i b h k =
     leNum-lt (drop i (part at w bs)) 7 (drop-bytes (part at w bs) i (part-bytes bs at w b))
     (simp length-drop (omega (arith, part-length-le bs at w)))
+
+-- a number in bytes that are split in two: the second part counts 256 for each byte of the first
+leNum-append : (l m : List ℕ) → leNum (l ++ m) ≡ leNum l + 256 ^ length l * leNum m
+unfolding leNum
+leNum-append [] m = omega arith
+leNum-append (x ∷ l) m = rw (leNum-append l m, pow-suc) (omega arith)
+
+pub leAt-split : (bs : List ℕ) (a m n : ℕ) → a + m ≤ length bs → leAt (m + n) bs a ≡ leAt m bs a + 256 ^ m * leAt n bs (a + m)
+unfolding leAt
+leAt-split bs a m n h = rw (part-split bs a m n, leNum-append (part a m bs) (part (a + m) n bs), part-length bs a m h)
+
+-- the number in one byte, in two and in four, as a sum over the bytes
+leAt-one : (bs : List ℕ) (a : ℕ) → a + 1 ≤ length bs → leAt 1 bs a ≡ getD bs a 0
+unfolding leAt part leNum
+leAt-one bs a h = rw (drop-cons bs a 0 (omega arith)) (omega arith)
+
+pub leAt-two : (bs : List ℕ) (a : ℕ) → a + 2 ≤ length bs → leAt 2 bs a ≡ getD bs a 0 + 256 * getD bs (a + 1) 0
+leAt-two bs a h = rw (leAt-split bs a 1 1 (omega arith), leAt-one bs a (omega arith), leAt-one bs (a + 1) (omega arith))
+
+pub leAt-four : (bs : List ℕ) (a : ℕ) → a + 4 ≤ length bs →
+    leAt 4 bs a ≡ getD bs a 0 + 256 * getD bs (a + 1) 0 + 65536 * getD bs (a + 2) 0 + 16777216 * getD bs (a + 3) 0
+leAt-four bs a h =
+    let e : a + 2 + 1 ≡ a + 3 = omega arith in
+    rw (leAt-split bs a 2 2 (omega arith), leAt-two bs a (omega arith), leAt-two bs (a + 2) (omega arith), e) (omega arith)

@@ -1,20 +1,20 @@
 -- Laws of records and of the cursor's read. Assumes nothing.
-use mathlib.Core.Path.{_≡_, refl, sym, ap, _∙_}
+use mathlib.Core.Path.{_≡_, refl, ap, _∙_}
 use Prim.Native.Nat.{ℕ, _+_, _-_, _≤_, _<_}
 use native.Mathlib.Omega.{arith}
 use native.Mathlib.Decide.{decLe}
 use mathlib.Core.List.{List}
-use mathlib.Core.Bool.{Bool, true, false, _&&_, and-false}
+use mathlib.Core.Bool.{Bool, true, false, _&&_, and-true, and-false}
 use lib.ListN.{length}
 use lib.Dec.{leb, eqb}
 use borrow.Author.Tests.{le-leb, lt-leb, eq-eqb, ne-eqb, leb-true, eqb-true}
-use Rattle.words.proofs.Tests.{bool-cases, not-held, and-left, and-right}
+use Rattle.words.proofs.Tests.{bool-cases, and-left, and-right}
 use Rattle.records.specs.Layout.{bodyAt, recordSize, bodySize, known}
 use Rattle.records.specs.Record.{lenAt, kindAt, whole, framed, pickRead, readAt, readNext}
 use Rattle.records.specs.declared.Cursor.{Cursor}
 use Rattle.records.specs.declared.Read.{Read}
 use Rattle.records.specs.declared.Read.the-variants.{Record, End, Fault}
-use Rattle.records.proofs.Lengths.{known-low, known-min}
+use Rattle.records.proofs.Lengths.{known-min, known-low}
 
 -- fewer than 7 bytes hold no record
 pub whole-short : (bs : List ℕ) (at : ℕ) → length bs < at + 7 → whole bs at ≡ false
@@ -73,6 +73,20 @@ unfolding framed
 frame-framed bs kind len at f =
     simp (eq-eqb (kindAt bs at) kind (f .kind-is), eq-eqb (lenAt bs at) len (f .len-is), le-leb (at + recordSize len) (length bs) (f .within))
 
+-- the test of a frame, by its bytes, its length and its kind
+module _ (bs : List ℕ) (kind len at : ℕ) where
+  pub not-within : length bs < at + recordSize len → false ≡ framed bs kind len at
+  unfolding framed
+  not-within h = simp (lt-leb (at + recordSize len) (length bs) h, and-false)
+
+  pub not-len : (lenAt bs at ≡ len → ⊥) → false ≡ framed bs kind len at
+  unfolding framed
+  not-len n = simp (ne-eqb (lenAt bs at) len n, and-false)
+
+  pub is-kind : lenAt bs at ≡ len → at + recordSize len ≤ length bs → eqb (kindAt bs at) kind ≡ framed bs kind len at
+  unfolding framed
+  is-kind e h = simp (eq-eqb (lenAt bs at) len e, le-leb (at + recordSize len) (length bs) h, and-true)
+
 -- a frame of a known kind and length is what a cursor reads
 pub frame-read : (bs : List ℕ) (kind len at : ℕ) → known kind len ≡ true → Frame bs kind len at →
     readAt bs at ≡ Record kind (bodyAt at) (bodySize len) (record { at = at + recordSize len })
@@ -90,6 +104,7 @@ pickRead-inv false true r k s l nx q = (refl, q)
 pickRead-inv false false r k s l nx q = absurd (let z : _≡_ {A = ℕ} 0 1 = cc in omega arith)
 
 module _ (bs : List ℕ) (at k s l : ℕ) (nx : Cursor) (q : readAt bs at ≡ Record k s l nx) where
+  -- it is framed
   pub read-inv : Frame bs k (l + 2) at
   unfolding readAt whole recordSize bodySize
   read-inv =
@@ -110,37 +125,6 @@ module _ (bs : List ℕ) (at k s l : ℕ) (nx : Cursor) (q : readAt bs at ≡ Re
       let e : nx .at ≡ at + recordSize (lenAt bs at) = ap (λ (c : Cursor). c .at)
       (let z : nx ≡ record { at = at + recordSize (lenAt bs at) } = cc (i .1) in z) in
       (omega arith, omega arith)
-
-  -- the test of a frame, by the record that was read
-  pub is-len : (kind len : ℕ) → k ≡ kind → eqb (l + 2) len ≡ framed bs kind len at
-  unfolding framed recordSize
-  is-len kind len e =
-      bool-cases (eqb (l + 2) len)
-      (λ t. (let h : l + 2 ≡ len = eqb-true _ _ t in
-      t ∙ sym (frame-framed bs kind len at (record {
-        kind-is = read-inv .kind-is ∙ e;
-        len-is = read-inv .len-is ∙ h;
-        within = omega (arith, read-inv .within);
-      }))))
-      (λ t. (let h : eqb (lenAt bs at) len ≡ false = ap (λ (x : ℕ). eqb x len) (read-inv .len-is) ∙ t in
-      t ∙ simp (h, and-false)))
-
-  pub not-kind : (kind len : ℕ) → (k ≡ kind → ⊥) → false ≡ framed bs kind len at
-  unfolding framed
-  not-kind kind len n = simp (ne-eqb (kindAt bs at) kind (λ e. n (sym (read-inv .kind-is) ∙ e)))
-
-module _ (bs : List ℕ) (at kind len : ℕ) (e : known kind len ≡ true) where
-  pub not-end : readAt bs at ≡ End → false ≡ framed bs kind len at
-  not-end q =
-      sym (not-held (framed bs kind len at)
-      (λ t. (let r = frame-read bs kind len at e (framed-frame bs kind len at t) in
-      let z : _≡_ {A = ℕ} 0 1 = cc in omega arith)))
-
-  pub not-fault : readAt bs at ≡ Fault → false ≡ framed bs kind len at
-  not-fault q =
-      sym (not-held (framed bs kind len at)
-      (λ t. (let r = frame-read bs kind len at e (framed-frame bs kind len at t) in
-      let z : _≡_ {A = ℕ} 0 1 = cc in omega arith)))
 
 -- the cursor never passes the end of the bytes, and a record that was read moves it on
 pub next-within : (bs : List ℕ) (c : Cursor) → c .at ≤ length bs → readNext c (readAt bs (c .at)) .at ≤ length bs

@@ -92,6 +92,33 @@ fn byte_at(bytes: &[u8], at: usize) -> u64
     wide(bytes[at])
 }
 
+// The number in the two bytes from a position.
+fn pair_at(bytes: &[u8], at: usize) -> u64
+    requires { ⌜ at + 2 ≤ length (now bytes) ⌝ }
+    ensures { λ r. ⌜ r ≡ leAt 2 (now (bytes .entry)) at ⌝ }
+{
+    wide(bytes[at]) + 256 * wide(bytes[at + 1])
+}
+
+// The number in the four bytes from a position: written so that the compiler sees one load.
+fn half_at(bytes: &[u8], at: usize) -> u64
+    requires { ⌜ at + 4 ≤ length (now bytes) ⌝ }
+    ensures { λ r. ⌜ r ≡ leAt 4 (now (bytes .entry)) at ⌝ }
+{
+    wide(bytes[at])
+        + 256 * wide(bytes[at + 1])
+        + 65536 * wide(bytes[at + 2])
+        + 16777216 * wide(bytes[at + 3])
+}
+
+// The word in the eight bytes from a position.
+pub fn word_at(bytes: &[u8], at: usize) -> u64
+    requires { ⌜ at + 8 ≤ length (now bytes) ⌝ }
+    ensures { λ r. ⌜ r ≡ leAt 8 (now (bytes .entry)) at ⌝ }
+{
+    half_at(bytes, at) + 4294967296 * half_at(bytes, at + 4)
+}
+
 // A length that a job record has with some parameters.
 fn known_job_length(len: usize) -> bool
     ensures { λ r. ⌜ r ≡ jobLenKnown len ⌝ }
@@ -171,24 +198,16 @@ pub fn is_record(bytes: &[u8], at: usize, kind: u64, len: usize) -> bool
     requires { ⌜ known kind len ≡ true ⌝ }
     ensures { λ r. ⌜ r ≡ framed (now (bytes .entry)) kind len at ⌝ }
 {
-    let cursor = Cursor { at };
-    let got = cursor.read(bytes);
-    match got {
-        Read::Record {
-            kind: k,
-            start: _,
-            len: body,
-            next: _,
-        } => {
-            if k == kind {
-                body + KIND_SIZE == len
-            } else {
-                false
-            }
-        }
-        Read::End => false,
-        Read::Fault => false,
+    if bytes.len() < at {
+        return false;
     }
+    if bytes.len() - at < LENGTH_SIZE + len {
+        return false;
+    }
+    if half_at(bytes, at) != len as u64 {
+        return false;
+    }
+    pair_at(bytes, at + LENGTH_SIZE) == kind
 }
 
 // The heading whose record is at a position.

@@ -4,11 +4,11 @@
 use mathlib.Core.Path.{_≡_, refl, sym, _∙_, ap, ap₂}
 use mathlib.Core.Logic.{_≢_}
 use mathlib.Core.Bool.{true, true≢false}
-use mathlib.Core.List.{_∷_}
 use Prim.Native.Nat.{ℕ, zero, suc, _-_, _*_, _^_, _≤_, min}
 use native.Mathlib.Nat.{le-refl, le-trans, pow-suc}
 use native.Mathlib.Omega.{arith}
-use lib.ListN.{length, take, replicate, length-replicate}
+use lib.ListN.{length, take, length-replicate}
+use lib.Seq.{length-take-le}
 use lib.Pow.{pow-pos}
 use Rattle.words.specs.Word.{subW, allInWidth}
 use Rattle.words.proofs.Mod.{mods}
@@ -18,12 +18,16 @@ use Rattle.algebra.proofs.Ring.{mul-zero, zero-mul, inverse-only}
 use Rattle.algebra.proofs.Vec.{Vec, nil, cons}
 use Rattle.algebra.proofs.Extension.{unit, pad, vadd, vadd-zero}
 use Rattle.ring.specs.Inversion.{fermat, twoE, newton, newtons}
-use Rattle.ring.specs.Element.{Element, lower, difference, product, zeroE, oneE, reduce, same, elements, inverse}
+use Rattle.ring.specs.Element.{Element, lower, difference, product, zeroE, oneE, reduce, same, elements, inverse, held}
 use Rattle.ring.proofs.Zmod.{Word, word-ext}
 use Rattle.ring.proofs.Galois.{Zk, GR, modulus, low, newton-lift, step}
 use Rattle.ring.proofs.Table.{length-lower}
-use Rattle.ring.proofs.Lists.{toList, ofList, const-suc, length-toList, length-zip, length-product, of-to, to-of, low-of, of-reduce, reduce-to, width-to, zero-of, of-zero, one-of, of-one, product-of, of-product, of-difference, reduce-product}
+use Rattle.ring.proofs.Lists.{toList, ofList, const-suc, length-toList, length-zip, length-product, length-reduce}
+use Rattle.ring.proofs.Lists.{of-to, to-of, low-of, of-reduce, reduce-to, width-to, zero-of, of-zero, one-of, of-one}
+use Rattle.ring.proofs.Lists.{product-of, of-product, of-difference, reduce-product, reduce-reduce, product-alike}
 use Rattle.ring.proofs.Elements.{same-eq, eq-same, elements-all, elements-only, first-passes, first-none, first-is}
+use Rattle.ring.proofs.Held.{held-take, held-length}
+use Rattle.ring.proofs.Narrow.{reduce-take, reduce-zeros, narrow-product}
 use Rattle.ring.proofs.Field.{length-fermat, fermat-inverse, one-not-zero, unit-of-odd}
 
 -- `inverse` is an element
@@ -210,51 +214,58 @@ module _ (d : ℕ) (dl : 2 ≤ d) (dh : d ≤ 6) where
       ∙ ap toList (mul-zero (GR d 1) (ofList 1 d (fermat d a n))) ∙ sym (zero-of 1 d) in
       ap (λ y. product 1 (lower d) y y) y ∙ zero-product 1 (zeroE d) (length-replicate d 0)
 
-  reduce-newton : (k : ℕ) (a x : Element) → length a ≡ d → length x ≡ d → reduce k (newton k d a x) ≡ newton k d a x
-  unfolding newton
-  reduce-newton k a x l m =
-      let b = difference k (twoE d) (product k (lower d) a x) in
-      let e = product-of k d (lower d) len d x b m (length-rest k a x l m) in
-      ap (reduce k) e ∙ reduce-to k (GR d k .mul (ofList k d x) (ofList k d b)) ∙ sym e
-
-  reduce-newtons : (k : ℕ) (a y : Element) → length a ≡ d → length y ≡ d → (n : ℕ)
-      → reduce k (newtons k d a y (suc n)) ≡ newtons k d a y (suc n)
-  unfolding newtons
-  reduce-newtons k a y l m n = reduce-newton k a (newtons k d a y n) l (length-newtons k a y l m n)
-
-  reduce-fermat : (a : Element) → length a ≡ d → (n : ℕ) → reduce 1 (fermat d a (suc n)) ≡ fermat d a (suc n)
+  -- a turn of the chain of squares in words of 64 bits, modulo two
+  pub fermat-turn : (a y : Element) → length a ≡ d → (n : ℕ) → reduce 1 y ≡ held d (fermat d a n)
+      → (z : Element) → z ≡ product 64 (lower d) (take d y) a → reduce 1 (held d (product 64 (lower d) z z)) ≡ held d (fermat d a (suc n))
   unfolding fermat
-  reduce-fermat a l n =
-      let y = product 1 (lower d) (fermat d a n) a in
-      let m : length y ≡ d = length-product 1 (lower d) (fermat d a n) a (l ∙ sym len) ∙ len in
-      reduce-product (le-refl 1) d (lower d) len y y m m
+  fermat-turn a y l n e z q =
+      let x = fermat d a n in
+      let hx : length x ≡ d = length-fermat d dl dh a l n in
+      let hy : length y ≡ 6 = sym (length-reduce 1 y) ∙ ap length e ∙ held-length d x hx dh in
+      let ht : length (take d y) ≡ d = length-take-le d y (omega arith) in
+      let hz : length z ≡ d = ap length q ∙ length-product 64 (lower d) (take d y) a (l ∙ sym len) ∙ len in
+      let ex : reduce 1 (take d y) ≡ x = reduce-take 1 d y ∙ ap (take d) e ∙ held-take d x hx in
+      let ez : reduce 1 z ≡ product 1 (lower d) (take d y) a = ap (reduce 1) q ∙ reduce-product o d (lower d) len (take d y) a ht l in
+      let exx : reduce 1 (take d y) ≡ reduce 1 x = sym (reduce-reduce (le-refl 1) (take d y)) ∙ ap (reduce 1) ex in
+      let w : product 1 (lower d) (take d y) a ≡ product 1 (lower d) x a = product-alike 1 d (lower d) len (take d y) a x a ht l exx refl in
+      let ezz : reduce 1 z ≡ reduce 1 (product 1 (lower d) x a) = sym (reduce-reduce (le-refl 1) z) ∙ ap (reduce 1) (ez ∙ w) in
+      narrow-product o d dl dh z z hz hz
+      ∙ ap (held d) (product-alike 1 d (lower d) len z z (product 1 (lower d) x a) (product 1 (lower d) x a) hz hz ezz ezz)
+    where
+      o : 1 ≤ 64
+      o = omega arith
 
-  -- the inverse, computed: d - 1 squares modulo two, then as many steps of Newton as reach k bits
-  pub inverse-computed : (k : ℕ) → 1 ≤ k → (a : Element) → length a ≡ d → (n : ℕ) → k ≤ 2 ^ n
-      → newtons k d a (fermat d a (d - 1)) n ≡ inverse k d a
-  unfolding newtons
-  inverse-computed k h a l n g =
+  -- the inverse, computed: d - 1 squares modulo two, then as many steps of Newton as reach k bits, in words of w bits that are cut at the end
+  pub inverse-computed : (k w : ℕ) → 1 ≤ k → k ≤ w → (a : Element) → length a ≡ d → (n : ℕ) → k ≤ 2 ^ n
+      → reduce k (newtons w d a (fermat d a (d - 1)) n) ≡ inverse k d a
+  inverse-computed k w h v a l n g =
       bool-cases (same (reduce 1 a) (zeroE d)) (λ t. even (same-eq (reduce 1 a) (zeroE d) t))
       (λ f. odd (λ z. true≢false (sym (eq-same (reduce 1 a) (zeroE d) z) ∙ f)))
     where
       y : Element
       y = fermat d a (d - 1)
 
+      x : Element
+      x = newtons w d a y n
+
       squared : y ≡ fermat d a (suc (d - 2))
       squared = let e : d - 1 ≡ suc (d - 2) = omega arith in ap (fermat d a) e
 
-      even : reduce 1 a ≡ zeroE d → newtons k d a y n ≡ inverse k d a
+      even : reduce 1 a ≡ zeroE d → reduce k x ≡ inverse k d a
       even z =
-          ap (λ y. newtons k d a y n) (squared ∙ fermat-zero a l z (d - 2)) ∙ newtons-zero k a l n ∙ sym (inverse-even k h a l z)
+          ap (λ y. reduce k (newtons w d a y n)) (squared ∙ fermat-zero a l z (d - 2))
+          ∙ ap (reduce k) (newtons-zero w a l n) ∙ reduce-zeros k d ∙ sym (inverse-even k h a l z)
 
       m : length y ≡ d
       m = length-fermat d dl dh a l (d - 1)
 
-      reduced : (n : ℕ) → k ≤ 2 ^ n → reduce k (newtons k d a y n) ≡ newtons k d a y n
-      reduced zero g = let o : k ≡ 1 = omega arith in ap (λ j. reduce j y) o ∙ ap (reduce 1) squared ∙ reduce-fermat a l (d - 2) ∙ sym squared
-      reduced (suc n) g = reduce-newtons k a y l m n
+      lx : length x ≡ d
+      lx = length-newtons w a y l m n
 
-      odd : reduce 1 a ≢ zeroE d → newtons k d a y n ≡ inverse k d a
+      odd : reduce 1 a ≢ zeroE d → reduce k x ≡ inverse k d a
       odd o =
-          sym (inverse-unique k h a l (newtons k d a y n) (length-newtons k a y l m n) (reduced n g)
-          (newtons-right k a y l m (fermat-inverse d dl dh a l o) n k h g (le-refl k)))
+          let r : reduce k (reduce k x) ≡ reduce k x = reduce-reduce (le-refl k) x in
+          let hr : length (reduce k x) ≡ d = length-reduce k x ∙ lx in
+          sym (inverse-unique k h a l (reduce k x) hr r
+          (product-alike k d (lower d) len a (reduce k x) a x l hr refl r
+          ∙ newtons-right w a y l m (fermat-inverse d dl dh a l o) n k h g v))

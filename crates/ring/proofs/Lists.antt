@@ -5,7 +5,8 @@ use mathlib.Core.Path.{_≡_, refl, sym, _∙_, ap, ap₂}
 use mathlib.Core.Bool.{true}
 use mathlib.Core.List.{[], _∷_, map}
 use Prim.Native.Nat.{ℕ, zero, suc, _-_, _*_, _/_, _%_, _^_, _≤_, _<_}
-use native.Mathlib.Nat.{mod-mod-of-dvd, mod-lt, mod-eq-of-lt, zero-mod, suc-inj, suc-ne-zero, le-of-eq, lt-of-lt-of-le, pow-le-pow-right, pow-suc}
+use native.Mathlib.Nat.{mod-mod-of-dvd, mod-lt, mod-eq-of-lt, zero-mod, suc-inj, suc-ne-zero}
+use native.Mathlib.Nat.{le-refl, le-of-eq, lt-of-lt-of-le, pow-le-pow-right, pow-suc}
 use native.Mathlib.Omega.{arith}
 use lib.Pow.{pow-pos, pow-lt}
 use lib.Dec.{ltb}
@@ -301,6 +302,17 @@ pub product-same : (k d : ℕ) (l : Element) → length l ≡ d → (a b a′ b�
     → ofList k d a ≡ ofList k d a′ → ofList k d b ≡ ofList k d b′ → product k l a b ≡ product k l a′ b′
 product-same k d l len a b a′ b′ m n m′ n′ p q =
     product-of k d l len d a b m n ∙ ap₂ (λ x y. toList (Galois (vec d l) k .mul x y)) p q ∙ sym (product-of k d l len d a′ b′ m′ n′)
+
+-- the same, where they are given cut
+pub product-alike : (k d : ℕ) (l : Element) → length l ≡ d → (a b a′ b′ : Element) → length a ≡ d → length b ≡ d
+    → reduce k a ≡ reduce k a′ → reduce k b ≡ reduce k b′ → product k l a b ≡ product k l a′ b′
+product-alike k d l len a b a′ b′ m n p q =
+    let m′ : length a′ ≡ d = sym (length-reduce k a′) ∙ ap length (sym p) ∙ length-reduce k a ∙ m in
+    let n′ : length b′ ≡ d = sym (length-reduce k b′) ∙ ap length (sym q) ∙ length-reduce k b ∙ n in
+    product-same k d l len a b a′ b′ m n m′ n′ (of-alike a a′ p) (of-alike b b′ q)
+  where
+    of-alike : (x y : Element) → reduce k x ≡ reduce k y → ofList k d x ≡ ofList k d y
+    of-alike x y e = sym (of-reduce (le-refl k) d x) ∙ ap (ofList k d) e ∙ of-reduce (le-refl k) d y
 
 -- raising, halving and doubling, word by word
 pub raise-to : {j k : ℕ} → j ≤ k → {n : ℕ} (u : Vec (Word (2 ^ j)) n) → toList (raise k u) ≡ toList u

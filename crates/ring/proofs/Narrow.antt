@@ -1,16 +1,14 @@
--- Words of k bits may be cut to j bits at any time: a sum, or X times an element, at k bits, cut to j, is the one at j bits
+-- Words of k bits may be cut to j bits at any time: a sum at k bits, cut to j, is the one at j bits
 -- (`reduce-product` of Lists says so of a product). And the cut of an array of six. Assumes nothing.
 use mathlib.Core.Path.{_≡_, refl, sym, ap, ap₂, _∙_}
 use mathlib.Core.List.{[], _∷_, _++_}
-use Prim.Native.Nat.{ℕ, zero, suc, _+_, _-_, _*_, _/_, _%_, _^_, _≤_}
-use native.Mathlib.Nat.{zero-mod, le-of-eq, mod-mod, mod-lt, mod-add-div, add-mod-mod, add-mul-mod-self-left}
-use native.Mathlib.Omega.{arith}
-use lib.Pow.{pow-pos}
+use Prim.Native.Nat.{ℕ, zero, suc, _+_, _-_, _%_, _^_, _≤_}
+use native.Mathlib.Nat.{zero-mod, le-of-eq, add-mod-mod}
 use lib.ListN.{length, getD, take}
 use lib.Seq.{take-all}
-use Rattle.words.specs.Word.{addW, negW, subW, mulW}
-use Rattle.words.proofs.Mod.{mods, mod-narrow, sub-law}
-use Rattle.ring.specs.Element.{Element, zeroE, zip, sum, downW, lower, timesX, product, reduce, held}
+use Rattle.words.specs.Word.{addW}
+use Rattle.words.proofs.Mod.{mod-narrow}
+use Rattle.ring.specs.Element.{Element, zeroE, zip, sum, lower, product, reduce, held}
 use Rattle.ring.proofs.Lists.{length-reduce, length-product, reduce-product}
 use Rattle.ring.proofs.Table.{length-lower}
 use Rattle.ring.proofs.Zip.{six-words}
@@ -20,30 +18,6 @@ use Rattle.ring.proofs.Held.{zeros-after}
 add-narrow : {j k : ℕ} → j ≤ k → (x y : ℕ) → addW k x y % 2 ^ j ≡ addW j x y
 unfolding addW
 add-narrow {j} {k} h x y = mod-narrow (x + y) j k h
-
--- a difference with its second operand is the first
-sub-back : (k x y : ℕ) → (subW k x y + y) % 2 ^ k ≡ x % 2 ^ k
-unfolding subW negW
-sub-back k x y =
-    simp mods
-    (ap (λ (m : ℕ). m % 2 ^ k) (omega (arith, mod-add-div y (2 ^ k), mod-lt y (pow-pos k)))
-    ∙ add-mul-mod-self-left x (2 ^ k) (suc (y / 2 ^ k)))
-
-sub-narrow : {j k : ℕ} → j ≤ k → (x y : ℕ) → subW k x y % 2 ^ j ≡ subW j x y
-unfolding subW negW
-sub-narrow {j} {k} h x y =
-    sub-law (subW k x y) x y (2 ^ j) (pow-pos j)
-    (sym (mod-narrow (subW k x y + y) j k h) ∙ ap (λ (m : ℕ). m % 2 ^ j) (sub-back k x y) ∙ mod-narrow x j k h)
-
--- a difference depends on its second operand modulo 2^k alone
-sub-mod : (k x y : ℕ) → subW k x (y % 2 ^ k) ≡ subW k x y
-unfolding subW negW
-sub-mod k x y = rw mod-mod
-
-down-narrow : {j k : ℕ} → j ≤ k → (t x m : ℕ) → downW k t x m % 2 ^ j ≡ downW j t x m
-unfolding mulW
-down-narrow {j} {k} h t x m =
-    sub-narrow h x (mulW k t m) ∙ sym (sub-mod j x (mulW k t m)) ∙ ap (subW j x) (mod-narrow (t * m) j k h)
 
 -- lists
 reduce-zip : (j : ℕ) (f g : ℕ → ℕ → ℕ) → ((x y : ℕ) → f x y % 2 ^ j ≡ g x y) → (a b : Element) → reduce j (zip f a b) ≡ zip g a b
@@ -62,12 +36,6 @@ sum-reduce j [] b = refl
 sum-reduce j (x ∷ a) [] = refl
 sum-reduce j (x ∷ a) (y ∷ b) = ap₂ _∷_ (add-mod-mod x y (2 ^ j)) (sum-reduce j a b)
 
-pub reduce-timesX : {j k : ℕ} → j ≤ k → (l r : Element) → reduce j (timesX k l r) ≡ timesX j l r
-unfolding timesX
-reduce-timesX {j} {k} h l r =
-    let t = getD r (length r - 1) 0 in
-    reduce-zip j (downW k t) (downW j t) (down-narrow h t) (0 ∷ r) l
-
 -- arrays of six
 pub reduce-six : (k : ℕ) (a : Element) → length a ≡ 6
     → reduce k a
@@ -85,6 +53,12 @@ reduce-append : (k : ℕ) (a b : Element) → reduce k (a ++ b) ≡ reduce k a +
 unfolding reduce
 reduce-append k [] b = refl
 reduce-append k (x ∷ a) b = ap (λ (l : Element). x % 2 ^ k ∷ l) (reduce-append k a b)
+
+pub reduce-take : (k n : ℕ) (a : Element) → reduce k (take n a) ≡ take n (reduce k a)
+unfolding reduce
+reduce-take k zero a = refl
+reduce-take k (suc n) [] = refl
+reduce-take k (suc n) (x ∷ a) = ap (λ (l : Element). x % 2 ^ k ∷ l) (reduce-take k n a)
 
 pub reduce-zeros : (k n : ℕ) → reduce k (zeroE n) ≡ zeroE n
 unfolding reduce

@@ -2,11 +2,11 @@
 ghost use mathlib.Core.Path.{_≡_};
 ghost use mathlib.Core.Bool.{cond};
 ghost use mathlib.Core.List.{_∷_, [], _++_};
-ghost use Prim.Native.Nat.{_+_, _-_, _*_, _≤_};
+ghost use Prim.Native.Nat.{ℕ, _+_, _-_, _^_, _≤_};
 ghost use lib.Dec.{ltb};
 ghost use lib.ListN.{length, take, drop, getD};
-ghost use Rattle.ring.specs.Element.{zip, sum, difference, held, lower, downW, timesX, plusW, addScaled, product, point, reduce, inverse};
-ghost use Rattle.ring.specs.Inversion.{fermat, newton};
+ghost use Rattle.ring.specs.Element.{zip, sum, difference, held, lower, downW, plusW, addScaled, product, point, reduce, inverse};
+ghost use Rattle.ring.specs.Inversion.{fermat, newtons};
 ghost use Rattle.ring.specs.Calls.{operandFault, operandsFault};
 ghost use Rattle.words.specs.Refusal.{kept};
 
@@ -113,14 +113,6 @@ pub fn reduce(k: u64, a: [u64; 6]) -> [u64; 6]
         words::low_bits(a[4], k),
         words::low_bits(a[5], k),
     ]
-}
-
-// X times r.
-pub fn times_x(k: u64, d: usize, low: [u64; 6], r: [u64; 6]) -> [u64; 6]
-    requires { ⌜ ((1 ≤ k) × (k ≤ 64)) × ((2 ≤ d) × (d ≤ 6)) × (low ≡ held d (lower d)) ⌝ }
-    ensures { λ s. ⌜ s ≡ held d (timesX k (lower d) (take d r)) ⌝ }
-{
-    reduce(k, keep(d, shift(d, low, r)))
 }
 
 // One word of a sum with a multiple, in 64 bits: x plus c times y.
@@ -241,48 +233,75 @@ pub fn product_by_point(k: u64, d: usize, low: [u64; 6], a: [u64; 6], i: u64) ->
     reduce(k, product64_by_point(d, a, i))
 }
 
-// a^(2^d - 2) modulo two: there the inverse of what has one.
-fn fermat(d: usize, low: [u64; 6], a: [u64; 6]) -> [u64; 6]
-    requires { ⌜ ((2 ≤ d) × (d ≤ 6)) × (low ≡ held d (lower d)) ⌝ }
-    ensures { λ r. ⌜ r ≡ held d (fermat d (take d a) (d - 1)) ⌝ }
+// a^(2^d - 2) in words of 64 bits, which modulo two is the inverse of what has one there.
+fn fermat_by(d: usize, a: [u64; 6]) -> [u64; 6]
+    requires { ⌜ (2 ≤ d) × (d ≤ 6) ⌝ }
+    ensures { λ r. ⌜ reduce 1 r ≡ held d (fermat d (take d a) (d - 1)) ⌝ }
 {
     let mut y = [1, 0, 0, 0, 0, 0];
     let mut i = 1;
     while i < d {
-        let z = product(1, d, low, y, a);
-        y = product(1, d, low, z, z);
+        let z = product64(d, y, a);
+        y = product64(d, z, z);
         i += 1;
     }
     y
 }
 
-// Newton's step: an inverse of a modulo 2^j becomes one modulo 2^(2j).
-fn newton(k: u64, d: usize, low: [u64; 6], a: [u64; 6], y: [u64; 6]) -> [u64; 6]
-    requires { ⌜ ((1 ≤ k) × (k ≤ 64)) × ((2 ≤ d) × (d ≤ 6)) × (low ≡ held d (lower d)) ⌝ }
-    ensures { λ r. ⌜ r ≡ held d (newton k d (take d a) (take d y)) ⌝ }
+// The same, with code for each d.
+fn fermat64(d: usize, a: [u64; 6]) -> [u64; 6]
+    requires { ⌜ (2 ≤ d) × (d ≤ 6) ⌝ }
+    ensures { λ r. ⌜ reduce 1 r ≡ held d (fermat d (take d a) (d - 1)) ⌝ }
 {
-    let p = product(k, d, low, a, y);
-    let q = difference(k, [2, 0, 0, 0, 0, 0], p);
-    product(k, d, low, y, q)
+    match d {
+        2 => fermat_by(2, a),
+        3 => fermat_by(3, a),
+        4 => fermat_by(4, a),
+        5 => fermat_by(5, a),
+        _ => fermat_by(6, a),
+    }
 }
 
-// The inverse, or zero for what is zero modulo two: w bits of it are right after the steps that double w from 1.
-pub fn inverse_of(k: u64, d: usize, low: [u64; 6], a: [u64; 6]) -> [u64; 6]
-    requires { ⌜ ((1 ≤ k) × (k ≤ 64)) × ((2 ≤ d) × (d ≤ 6)) × (low ≡ held d (lower d)) ⌝ }
-    ensures { λ r. ⌜ r ≡ held d (inverse k d (take d a)) ⌝ }
+// Newton's steps, each of which doubles the bits of the inverse that are right, from 1 to k at least; in words of 64 bits.
+fn newton_by(k: u64, d: usize, a: [u64; 6], start: [u64; 6]) -> [u64; 6]
+    requires { ⌜ (k ≤ 64) × ((2 ≤ d) × (d ≤ 6)) × (start ≡ held d start) ⌝ }
+    ensures { λ r. ⌜ ((n : ℕ) × ((k ≤ 2 ^ n) × (r ≡ held d (newtons 64 d (take d a) (take d start) n)))) ⌝ }
 {
-    let mut y = fermat(d, low, a);
+    let mut y = start;
     let mut w = 1;
     while w < k {
-        let z = newton(k, d, low, a, y);
+        let q = difference(64, [2, 0, 0, 0, 0, 0], product64(d, a, y));
+        let z = product64(d, y, q);
         y = z;
         w += w;
     }
     y
 }
 
+// The same, with code for each d.
+fn newton64(k: u64, d: usize, a: [u64; 6], start: [u64; 6]) -> [u64; 6]
+    requires { ⌜ (k ≤ 64) × ((2 ≤ d) × (d ≤ 6)) × (start ≡ held d start) ⌝ }
+    ensures { λ r. ⌜ ((n : ℕ) × ((k ≤ 2 ^ n) × (r ≡ held d (newtons 64 d (take d a) (take d start) n)))) ⌝ }
+{
+    match d {
+        2 => newton_by(k, 2, a, start),
+        3 => newton_by(k, 3, a, start),
+        4 => newton_by(k, 4, a, start),
+        5 => newton_by(k, 5, a, start),
+        _ => newton_by(k, 6, a, start),
+    }
+}
+
+// The inverse, or zero for what is zero modulo two: words of 64 bits, reduced at the end.
+pub fn inverse_of(k: u64, d: usize, low: [u64; 6], a: [u64; 6]) -> [u64; 6]
+    requires { ⌜ ((1 ≤ k) × (k ≤ 64)) × ((2 ≤ d) × (d ≤ 6)) × (low ≡ held d (lower d)) ⌝ }
+    ensures { λ r. ⌜ r ≡ held d (inverse k d (take d a)) ⌝ }
+{
+    reduce(k, newton64(k, d, a, reduce(1, fermat64(d, a))))
+}
+
 // An element read from a lent list, from `at` on.
-pub fn load(d: usize, s: &[u64], at: usize) -> [u64; 6]
+fn load_by(d: usize, s: &[u64], at: usize) -> [u64; 6]
     requires { ⌜ (d ≤ 6) × (at + d ≤ length (now s)) ⌝ }
     ensures { λ r. ⌜ r ≡ held d (drop at (now (s .entry))) ⌝ }
 {
@@ -295,8 +314,22 @@ pub fn load(d: usize, s: &[u64], at: usize) -> [u64; 6]
     r
 }
 
+// The same, with code for each d.
+pub fn load(d: usize, s: &[u64], at: usize) -> [u64; 6]
+    requires { ⌜ ((2 ≤ d) × (d ≤ 6)) × (at + d ≤ length (now s)) ⌝ }
+    ensures { λ r. ⌜ r ≡ held d (drop at (now (s .entry))) ⌝ }
+{
+    match d {
+        2 => load_by(2, s, at),
+        3 => load_by(3, s, at),
+        4 => load_by(4, s, at),
+        5 => load_by(5, s, at),
+        _ => load_by(6, s, at),
+    }
+}
+
 // The d words of an element, into a lent list from `at` on.
-pub fn store(d: usize, out: &mut [u64], at: usize, e: [u64; 6])
+fn store_by(d: usize, out: &mut [u64], at: usize, e: [u64; 6])
     requires { ⌜ (d ≤ 6) × (at + d ≤ length (now out)) ⌝ }
     ensures { λ _. ⌜ now (out .exit) ≡ take at (now (out .entry)) ++ take d e ++ drop (at + d) (now (out .entry)) ⌝ }
 {
@@ -304,6 +337,20 @@ pub fn store(d: usize, out: &mut [u64], at: usize, e: [u64; 6])
     while j < d {
         out[at + j] = e[j];
         j += 1;
+    }
+}
+
+// The same, with code for each d.
+pub fn store(d: usize, out: &mut [u64], at: usize, e: [u64; 6])
+    requires { ⌜ ((2 ≤ d) × (d ≤ 6)) × (at + d ≤ length (now out)) ⌝ }
+    ensures { λ _. ⌜ now (out .exit) ≡ take at (now (out .entry)) ++ take d e ++ drop (at + d) (now (out .entry)) ⌝ }
+{
+    match d {
+        2 => store_by(2, out, at, e),
+        3 => store_by(3, out, at, e),
+        4 => store_by(4, out, at, e),
+        5 => store_by(5, out, at, e),
+        _ => store_by(6, out, at, e),
     }
 }
 

@@ -1,9 +1,8 @@
 -- An answer in the parts in which the code returns it, from what the decoder gives. Assumes nothing.
 use mathlib.Core.Path.{_≡_, refl, sym, _∙_, ap}
-use mathlib.Core.Logic.{_⊎_, inl, inr}
-use mathlib.Core.List.{List, [], _∷_, _++_, map}
+use mathlib.Core.List.{List, [], _∷_}
 use mathlib.Core.Option.{Option, none, some}
-use Prim.Native.Nat.{ℕ, zero, suc, _+_, _*_, _≤_, _<_}
+use Prim.Native.Nat.{ℕ, _+_, _*_, _≤_}
 use native.Mathlib.Nat.{suc-ne-zero}
 use native.Mathlib.Decide.{decLe}
 use native.Mathlib.Omega.{arith}
@@ -11,13 +10,12 @@ use lib.ListN.{length, getD, replicate}
 use Rattle.words.specs.declared.Params.{Params}
 use Rattle.ring.specs.Element.{Element, zeroE, held}
 use Rattle.ring.proofs.Held.{zeros-held}
-use Rattle.polynomial.specs.Rows.{Rows}
 use Rattle.codewords.specs.Codeword.{Share, Polynomial, errorSet, codeword}
-use Rattle.codewords.specs.WellFormed.{IsElement, IsPoly}
+use Rattle.codewords.specs.WellFormed.{IsPoly}
 use Rattle.codewords.proofs.Unique.{codeword-sound}
 use Rattle.level.specs.declared.Level.{Level}
 use Rattle.level.specs.declared.Level.the-variants.{Codeword, Nothing}
-use Rattle.decoder.specs.Decoded.{answer, stored}
+use Rattle.decoder.specs.Decoded.{answer, storedSecret}
 use Rattle.sharing.specs.Opening.{Opening, declines, gives, faultOf, wrongOf, wordsOf, answerTo}
 use Rattle.sharing.proofs.Opens.{answer-few, answer-from}
 
@@ -52,11 +50,11 @@ module _ (p : Params) (e : ℕ) (ss : List Share) (enough : p .t + 1 + 2 * e ≤
       go none c = answer-from p e ss none enough c
       go (some q) c = absurd (apart (ap (answer (p .k) (p .d) ss) {x = some q} {y = o} (sym c) ∙ sym a ∙ x))
 
-  -- it finds a polynomial, whose coefficients are in rows
-  pub found-parts : (r : Level) (w : ℕ) (rows old : Rows) → r ≡ answer (p .k) (p .d) ss o → r ≡ Codeword w → rows ≡ stored (p .d) o old
-      → Parts (p .d) 0 w (getD rows 0 []) (answerTo p e ss)
-  unfolding answer stored
-  found-parts r w rows old a x s = go o refl
+  -- it finds a polynomial, whose free term is in six words
+  pub found-parts : (r : Level) (w : ℕ) (six old : List ℕ) → r ≡ answer (p .k) (p .d) ss o → r ≡ Codeword w → six ≡ storedSecret (p .d) o old
+      → Parts (p .d) 0 w six (answerTo p e ss)
+  unfolding answer storedSecret
+  found-parts r w six old a x s = go o refl
     where
       apart : Nothing ≡ Codeword w → ⊥
       apart z = absurd (let y : 0 ≡ 1 = ap mark z in omega (arith, y))
@@ -69,17 +67,11 @@ module _ (p : Params) (e : ℕ) (ss : List Share) (enough : p .t + 1 + 2 * e ≤
       set (Codeword w) = w
       set Nothing = 0
 
-      first : (q : Polynomial) → IsPoly (p .k) (p .d) (p .t) q → getD (stored (p .d) (some q) old) 0 [] ≡ held (p .d) (getD q 0 [])
-      first [] h = absurd (suc-ne-zero (p .t) (sym (h .0)))
-      first (c ∷ q) h = refl
-
-      go : (u : Option Polynomial) → o ≡ u → Parts (p .d) 0 w (getD rows 0 []) (answerTo p e ss)
+      go : (u : Option Polynomial) → o ≡ u → Parts (p .d) 0 w six (answerTo p e ss)
       go none c = absurd (apart (ap (answer (p .k) (p .d) ss) {x = none} {y = o} (sym c) ∙ sym a ∙ x))
       go (some q) c =
           let v : w ≡ errorSet (p .k) (p .d) q ss = ap set (sym x ∙ a ∙ ap (answer (p .k) (p .d) ss) c) in
-          let f : getD rows 0 [] ≡ held (p .d) (getD q 0 []) =
-          ap (λ (l : Rows). getD l 0 []) (s ∙ ap (λ (u : Option Polynomial). stored (p .d) u old) c)
-          ∙ first q (codeword-sound (p .k) (p .d) (p .t) e ss q c .0) in
+          let f : six ≡ held (p .d) (getD q 0 []) = s ∙ ap (λ (u : Option Polynomial). storedSecret (p .d) u old) c in
           rw (answer-from p e ss (some q) enough c) (refl, v, f)
 
 -- an answer without a fault has words of the right length

@@ -1,15 +1,16 @@
--- Elements one after another in a list of words: how many, which stands where; and the rows of an array that hold them. Assumes nothing.
+-- Elements one after another in a list of words: how many, how long, which stands where; those from one of them on; and the rows of an array
+-- that hold them. Assumes nothing.
 use mathlib.Core.Path.{_≡_, refl, sym, _∙_, ap, ap₂}
 use mathlib.Core.List.{List, [], _∷_, _++_, map}
 use Prim.Native.Nat.{ℕ, zero, suc, _+_, _-_, _*_, _≤_, _<_}
-use native.Mathlib.Nat.{not-suc-le-zero, le-of-suc-le-suc, le-refl, le-of-eq, zero-mul}
+use native.Mathlib.Nat.{not-suc-le-zero, le-of-suc-le-suc, le-refl, zero-mul, sub-zero}
 use native.Mathlib.Omega.{arith}
-use lib.ListN.{length, take, drop, getD, length-map, length-drop, List·getD-map}
-use lib.Seq.{paste, take-take, take-nil, take-at, drop-drop, take-all, length-take-le}
+use lib.ListN.{length, take, drop, getD, length-map, length-drop}
+use lib.Seq.{take-take, drop-drop, length-take-le}
 use Rattle.algebra.specs.Shares.{All}
 use Rattle.ring.specs.Element.{Element, held, zeroE}
 use Rattle.ring.proofs.Held.{held-take}
-use Rattle.polynomial.specs.Rows.{Rows, coefs}
+use Rattle.polynomial.specs.Rows.{Rows}
 use Rattle.sharing.specs.Dealing.{elementsOf}
 
 pub elements-length : (d n : ℕ) (ws : List ℕ) → length (elementsOf d n ws) ≡ n
@@ -25,8 +26,41 @@ element-at d (suc n) ws (suc i) h =
     let e : d + i * d ≡ suc i * d = omega arith in
     element-at d n (drop d ws) i (le-of-suc-le-suc h) ∙ ap (take d) (drop-drop (i * d) d ws ∙ ap (λ (m : ℕ). drop m ws) e)
 
+pub elements-rows : (d n : ℕ) (ws : List ℕ) → n * d ≤ length ws → All (λ c. length c ≡ d) (elementsOf d n ws)
+unfolding elementsOf
+elements-rows d zero ws h = tt
+elements-rows d (suc n) ws h = (length-take-le d ws (omega arith), elements-rows d n (drop d ws) (rw (length-drop d ws) (omega arith)))
+
+-- those from the i-th on: one more at a time, down to all of them
+abbrev pub elementsFrom : ℕ → ℕ → List ℕ → ℕ → List Element
+elementsFrom d n ws i = elementsOf d (n - i) (drop (i * d) ws)
+
+pub from-none : (d n : ℕ) (ws : List ℕ) → elementsFrom d n ws n ≡ []
+unfolding elementsOf
+from-none d n ws = let e : n - n ≡ 0 = omega arith in rw e
+
+pub from-more : (d n : ℕ) (ws : List ℕ) (i : ℕ) → 0 < i → i ≤ n
+    → elementsFrom d n ws (i - 1) ≡ take d (drop ((i - 1) * d) ws) ∷ elementsFrom d n ws i
+unfolding elementsOf
+from-more d n ws zero z h = absurd (not-suc-le-zero z)
+from-more d n ws (suc j) z h =
+    let e : n - j ≡ suc (n - suc j) = omega arith in
+    let f : suc j - 1 ≡ j = omega arith in
+    let g : j * d + d ≡ suc j * d = omega arith in
+    rw (f, e)
+    (ap (λ (l : List ℕ). take d (drop (j * d) ws) ∷ elementsOf d (n - suc j) l) (drop-drop d (j * d) ws ∙ ap (λ (m : ℕ). drop m ws) g))
+
+pub from-all : (d n : ℕ) (ws : List ℕ) → elementsFrom d n ws 0 ≡ elementsOf d n ws
+from-all d n ws = rw (zero-mul, sub-zero)
+
+pub from-rows : (d n : ℕ) (ws : List ℕ) (i : ℕ) → i ≤ n → length ws ≡ n * d → All (λ c. length c ≡ d) (elementsFrom d n ws i)
+from-rows d n ws i h l =
+    let e : i + (n - i) ≡ n = omega arith in
+    let f : (i + (n - i)) * d ≡ n * d = ap (λ (m : ℕ). m * d) e in
+    elements-rows d (n - i) (drop (i * d) ws) (rw (length-drop (i * d) ws) (omega (arith, f)))
+
 -- the same words in a row
-held-cut : (d : ℕ) (x : Element) → held d (take d x) ≡ held d x
+pub held-cut : (d : ℕ) (x : Element) → held d (take d x) ≡ held d x
 held-cut d x = ap (λ (l : Element). l ++ drop d (zeroE 6)) (take-take d d x (le-refl d))
 
 abbrev pub rowsOf : ℕ → ℕ → List ℕ → Rows
@@ -54,21 +88,3 @@ rows-back d (suc n) ws h =
     let l : d ≤ length ws = omega arith in
     let r : n * d ≤ length (drop d ws) = rw (length-drop d ws) (omega arith) in
     ap₂ _∷_ (held-take d (take d ws) (length-take-le d ws l)) (rows-back d n (drop d ws) r)
-
--- an element and then n others, in rows
-pub rows-after : (d n : ℕ) (s ws : List ℕ) (x q : Rows) → length s ≡ d → length ws ≡ n * d
-    → q ≡ paste (held d s ∷ x) 1 (rowsOf d n ws) n → coefs d (suc n) q ≡ s ∷ elementsOf d n ws
-rows-after d n s ws x q hs hw e =
-    let r = rowsOf d n ws in
-    let lr : length r ≡ n = rows-length d n ws in
-    let a : take n r ≡ r = take-all n r (le-of-eq lr) in
-    let f : 1 + n ≡ suc n = omega arith in
-    ap (coefs d (suc n)) (e ∙ ap (λ (m : ℕ). take 1 (held d s ∷ x) ++ take n r ++ drop m (held d s ∷ x)) f)
-    ∙ ap (λ (l : Rows). take d (held d s) ∷ map (take d) l) (ap (λ (l : Rows). take n (l ++ drop n x)) a ∙ take-at r (drop n x) n lr)
-    ∙ ap₂ _∷_ (held-take d s hs) (rows-back d n ws (le-of-eq (sym hw)))
-
--- the coefficients of rows of six have d words each
-pub coefs-rows : (d : ℕ) → d ≤ 6 → (n : ℕ) (q : Rows) → All (λ r. length r ≡ 6) q → All (λ c. length c ≡ d) (coefs d n q)
-coefs-rows d h zero q l = tt
-coefs-rows d h (suc n) [] l = tt
-coefs-rows d h (suc n) (r ∷ q) (l, m) = (length-take-le d r (rw l h), coefs-rows d h n q m)

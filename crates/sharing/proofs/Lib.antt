@@ -1,5 +1,6 @@
 -- The laws that the proofs cite, and the theorems.
 pub mod Elements
+pub mod Horner
 pub mod Dealt
 pub mod Faults
 pub mod Lent

@@ -3,16 +3,17 @@
 ghost use mathlib.Core.Path.{_≡_};
 ghost use mathlib.Core.Bool.{true};
 ghost use mathlib.Core.List.{_∷_};
-ghost use Prim.Native.Nat.{suc, _*_, _≤_};
+ghost use Prim.Native.Nat.{_*_, _≤_};
 ghost use lib.ListN.{length, take};
 ghost use Rattle.words.specs.Params.{paramsOk};
 ghost use Rattle.words.specs.Refusal.{kept};
-ghost use Rattle.ring.specs.Element.{held, zeroE};
+ghost use Rattle.ring.specs.Element.{held, zeroE, lower, point};
+ghost use Rattle.polynomial.specs.Polynomial.{value};
 ghost use Rattle.polynomial.specs.Rows.{coefs};
 ghost use Rattle.codewords.specs.WellFormed.{InWidth};
 ghost use Rattle.level.specs.Shares.{sharesOf};
 ghost use Rattle.decoder.specs.Decoded.{Ordered};
-ghost use Rattle.sharing.specs.Dealing.{elementsOf, dealtFrom, dealt, dealFault};
+ghost use Rattle.sharing.specs.Dealing.{elementsOf, dealt, dealFault};
 ghost use Rattle.sharing.specs.Opening.{faultOf, wrongOf, wordsOf, answerTo, risingTo, lentFault, opening};
 use level::Level;
 
@@ -41,32 +42,64 @@ fn deal_fault(p: words::Params, secret: &[u64], coefficients: &[u64], n: usize) 
     0
 }
 
-// The polynomial with the secret for its free term and the t coefficients after it.
-fn dealing(d: usize, t: usize, secret: &[u64], coefficients: &[u64]) -> [[u64; 6]; 64]
-    requires { ⌜ (d ≤ 6) × (t ≤ 63) × (length (now secret) ≡ d) × (length (now coefficients) ≡ t * d) ⌝ }
-    ensures { λ r. ⌜ coefs d (suc t) r ≡ now (secret .entry) ∷ elementsOf d t (now (coefficients .entry)) ⌝ }
+// The value at holder x's point, in words of 64 bits, of the polynomial with the secret for its free term and the t coefficients after it, by
+// Horner's rule.
+fn share_by(
+    d: usize,
+    low: [u64; 6],
+    secret: &[u64],
+    coefficients: &[u64],
+    t: usize,
+    x: u64,
+) -> [u64; 6]
+    requires { ⌜ ((2 ≤ d) × (d ≤ 6)) × (low ≡ held d (lower d)) × (t ≤ 63) × (length (now secret) ≡ d) × (length (now coefficients) ≡ t * d) ⌝ }
+    ensures { λ r. ⌜ r ≡ held d (value 64 d (now (secret .entry) ∷ elementsOf d t (now (coefficients .entry))) (point d x)) ⌝ }
 {
-    let mut q = [[0u64; 6]; 64];
-    q[0] = ring::load(d, secret, 0);
-    let mut i = 0;
-    while i < t {
-        q[i + 1] = ring::load(d, coefficients, i * d);
-        i += 1;
+    let mut r = [0u64; 6];
+    let mut i = t;
+    while 0 < i {
+        i -= 1;
+        let s = ring::sum(64, r, ring::load(d, coefficients, i * d));
+        r = ring::product_by_point(64, d, low, s, x);
     }
-    q
+    ring::sum(64, r, ring::load(d, secret, 0))
 }
 
-// The shares of holders 1 to n: the values of the polynomial of the first t + 1 rows at their points.
-fn write_shares(p: words::Params, q: [[u64; 6]; 64], out: &mut [u64])
-    requires { ⌜ ((1 ≤ p .k) × (p .k ≤ 64)) × ((2 ≤ p .d) × (p .d ≤ 6)) × ((p .n ≤ 63) × (p .t ≤ 62)) × (length (now out) ≡ p .n * p .d) ⌝ }
-    ensures { λ _. ⌜ now (out .exit) ≡ dealtFrom (p .k) (p .d) (coefs (p .d) (suc (p .t)) q) (p .n) 1 ⌝ }
+// The same, with code for each d.
+fn share_at(
+    d: usize,
+    low: [u64; 6],
+    secret: &[u64],
+    coefficients: &[u64],
+    t: usize,
+    x: u64,
+) -> [u64; 6]
+    requires { ⌜ ((2 ≤ d) × (d ≤ 6)) × (low ≡ held d (lower d)) × (t ≤ 63) × (length (now secret) ≡ d) × (length (now coefficients) ≡ t * d) ⌝ }
+    ensures { λ r. ⌜ r ≡ held d (value 64 d (now (secret .entry) ∷ elementsOf d t (now (coefficients .entry))) (point d x)) ⌝ }
+{
+    match d {
+        2 => share_by(2, low, secret, coefficients, t, x),
+        3 => share_by(3, low, secret, coefficients, t, x),
+        4 => share_by(4, low, secret, coefficients, t, x),
+        5 => share_by(5, low, secret, coefficients, t, x),
+        _ => share_by(6, low, secret, coefficients, t, x),
+    }
+}
+
+// The shares of holders 1 to n: words of 64 bits, reduced once at the end.
+fn write_shares(p: words::Params, secret: &[u64], coefficients: &[u64], out: &mut [u64])
+    requires { ⌜ ((1 ≤ p .k) × (p .k ≤ 64)) × ((2 ≤ p .d) × (p .d ≤ 6)) × ((p .n ≤ 63) × (p .t ≤ 63)) × (length (now secret) ≡ p .d)
+        × (length (now coefficients) ≡ p .t * p .d) × (length (now out) ≡ p .n * p .d) ⌝ }
+    ensures { λ _. ⌜ now (out .exit) ≡ dealt p (now (secret .entry)) (now (coefficients .entry)) ⌝ }
 {
     let low = ring::lower_of(p.d);
-    let mut i = 0;
-    while i < p.n {
-        let e = polynomial::value_at(p.k, p.d, low, q, p.t + 1, i as u64 + 1);
-        ring::store(p.d, out, i * p.d, e);
-        i += 1;
+    let mut at = 0;
+    let mut x: u64 = 1;
+    while at < out.len() {
+        let e = share_at(p.d, low, secret, coefficients, p.t, x);
+        ring::store(p.d, out, at, ring::reduce(p.k, e));
+        at += p.d;
+        x += 1;
     }
 }
 
@@ -80,8 +113,7 @@ pub fn deal(p: words::Params, secret: &[u64], coefficients: &[u64], out: &mut [u
     if fault != 0 {
         return fault;
     }
-    let q = dealing(p.d, p.t, secret, coefficients);
-    write_shares(p, q, out);
+    write_shares(p, secret, coefficients, out);
     0
 }
 
@@ -146,7 +178,7 @@ fn load_holders(holders: &[u64]) -> [u64; 63]
 
 // The words of m lent shares, a row for each.
 fn load_shares(d: usize, m: usize, shares: &[u64]) -> [[u64; 6]; 63]
-    requires { ⌜ (d ≤ 6) × (m ≤ 63) × (length (now shares) ≡ m * d) ⌝ }
+    requires { ⌜ ((2 ≤ d) × (d ≤ 6)) × (m ≤ 63) × (length (now shares) ≡ m * d) ⌝ }
     ensures { λ r. ⌜ coefs d m r ≡ elementsOf d m (now (shares .entry)) ⌝ }
 {
     let mut r = [[0u64; 6]; 63];
@@ -165,19 +197,19 @@ pub struct Answer {
     pub words: [u64; 6],
 }
 
-// The answer to m shares in arrays, with the error bound e.
+// The answer to m shares in arrays, with the error bound e. The arrays are room to work in: nothing is promised of them after.
 pub fn answer_to(
     p: words::Params,
     m: usize,
-    holders: [u64; 63],
-    shares: [[u64; 6]; 63],
+    holders: &mut [u64; 63],
+    shares: &mut [[u64; 6]; 63],
     e: u64,
 ) -> Answer
-    requires { ⌜ (paramsOk p ≡ true) × (m ≤ 63) × Ordered (p .n) (sharesOf (p .d) m holders shares)
-        × InWidth (p .k) (p .d) (sharesOf (p .d) m holders shares) ⌝ }
-    ensures { λ r. ⌜ (r .fault ≡ faultOf (answerTo p e (sharesOf (p .d) m holders shares)))
-        × (r .wrong ≡ wrongOf (answerTo p e (sharesOf (p .d) m holders shares)))
-        × (r .words ≡ held (p .d) (wordsOf (zeroE (p .d)) (answerTo p e (sharesOf (p .d) m holders shares)))) ⌝ }
+    requires { ⌜ (paramsOk p ≡ true) × (m ≤ 63) × Ordered (p .n) (sharesOf (p .d) m (now holders) (now shares))
+        × InWidth (p .k) (p .d) (sharesOf (p .d) m (now holders) (now shares)) × (length (now holders) ≡ 63) × (length (now shares) ≡ 63) ⌝ }
+    ensures { λ r. ⌜ (r .fault ≡ faultOf (answerTo p e (sharesOf (p .d) m (now (holders .entry)) (now (shares .entry)))))
+        × (r .wrong ≡ wrongOf (answerTo p e (sharesOf (p .d) m (now (holders .entry)) (now (shares .entry)))))
+        × (r .words ≡ held (p .d) (wordsOf (zeroE (p .d)) (answerTo p e (sharesOf (p .d) m (now (holders .entry)) (now (shares .entry)))))) ⌝ }
 {
     if m <= p.t {
         return Answer {
@@ -193,8 +225,8 @@ pub fn answer_to(
             words: [0; 6],
         };
     }
-    let mut q = [[0u64; 6]; 64];
-    let level = decoder::decode(p, m, holders, shares, e, &mut q);
+    let mut secret = [0u64; 6];
+    let level = decoder::decode(p, m, holders, shares, e, &mut secret);
     let Level::Codeword(wrong) = level else {
         return Answer {
             fault: words::NO_CODEWORD,
@@ -205,7 +237,7 @@ pub fn answer_to(
     Answer {
         fault: 0,
         wrong: wrong,
-        words: q[0],
+        words: secret,
     }
 }
 
@@ -236,9 +268,9 @@ pub fn open_shares(
         };
     }
     let m = holders.len();
-    let hs = load_holders(holders);
-    let ys = load_shares(p.d, m, shares);
-    let a = answer_to(p, m, hs, ys, e);
+    let mut hs = load_holders(holders);
+    let mut ys = load_shares(p.d, m, shares);
+    let a = answer_to(p, m, &mut hs, &mut ys, e);
     if a.fault != 0 {
         return Opened {
             fault: a.fault,

@@ -18,14 +18,14 @@ use Rattle.algebra.specs.Shares.{All}
 use Rattle.ring.specs.Element.{Element, zip, sum, product, lower, point, same, zeroE, held, downW, plusW, timesX}
 use Rattle.ring.proofs.Table.{passes, passes-at, length-lower}
 use Rattle.ring.proofs.Zip.{zip-take}
-use Rattle.ring.proofs.Held.{to-six, held-length}
+use Rattle.ring.proofs.Held.{to-six, held-same, held-take, held-length}
 use Rattle.ring.proofs.Horner.{shift-take, turn-length}
 use Rattle.ring.proofs.Lists.{length-zip, width-reduce}
 use Rattle.ring.proofs.Points.{length-point, reduce-point}
 use Rattle.sliced.specs.Lane.{lane, plusLanes, downLane, plusLane, shiftLanes, horner, timesLanes}
-use Rattle.sliced.specs.Lane.{spreadLane, supportOf, packed, sliceOf, pointsOf}
+use Rattle.sliced.specs.Lane.{spreadLane, supportOf, under, packed, sliceOf, pointsOf}
 use Rattle.sliced.proofs.Bits.{bit, zero-bit, bit-cases, xor-bit, or-bit, down-bit, plus-bit}
-use Rattle.sliced.proofs.Packed.{SixBits, length-packed, packed-at, packed-above}
+use Rattle.sliced.proofs.Packed.{SixBits, zip-fits, length-packed, packed-at, packed-above}
 
 map-take : (f : ℕ → ℕ) (n : ℕ) (a : List ℕ) → map f (take n a) ≡ take n (map f a)
 map-take f zero a = refl
@@ -117,14 +117,27 @@ horner-bits d (c ∷ a) b i h₂ h₆ hb =
     ∙ ap (λ (x : List ℕ). zip (plusW 1 (bit i c)) x (map (bit i) (take d b)))
     (shift-bits d r i h₂ h₆ (horner-length d a b h₂ h₆ hb) ∙ ap (timesX 1 (lower d)) (horner-bits d a b i h₂ h₆ hb))
 
-pub length-times : (d : ℕ) (a b : List ℕ) → 2 ≤ d → d ≤ 6 → length b ≡ 6 → length (timesLanes d a b) ≡ 6
+-- the product is its first d words and zeros
+times-held : (d : ℕ) (a b : List ℕ) → 2 ≤ d → d ≤ 6 → length b ≡ 6
+    → (timesLanes d a b ≡ held d (take d (horner d (take d a) b))) × (length (take d (horner d (take d a) b)) ≡ d)
 unfolding timesLanes
-length-times d a b = horner-length d (take d a) b
+times-held d a b h₂ h₆ hb =
+    let r = horner d (take d a) b in
+    let n : length (take d r) ≡ d = length-take-le d r (omega (arith, horner-length d (take d a) b h₂ h₆ hb)) in
+    (held-same d r (take d r) refl n, n)
+
+pub length-times : (d : ℕ) (a b : List ℕ) → 2 ≤ d → d ≤ 6 → length b ≡ 6 → length (timesLanes d a b) ≡ 6
+length-times d a b h₂ h₆ hb =
+    let t = times-held d a b h₂ h₆ hb in
+    ap length (t .0) ∙ held-length d (take d (horner d (take d a) b)) (t .1) h₆
 
 pub lane-times : (d : ℕ) (a b : List ℕ) (i : ℕ) → 2 ≤ d → d ≤ 6 → length b ≡ 6
     → lane d (timesLanes d a b) i ≡ product 1 (lower d) (lane d a i) (lane d b i)
-unfolding lane timesLanes
-lane-times d a b i = horner-bits d (take d a) b i
+unfolding lane
+lane-times d a b i h₂ h₆ hb =
+    let t = times-held d a b h₂ h₆ hb in
+    ap (map (bit i)) (ap (take d) (t .0) ∙ held-take d (take d (horner d (take d a) b)) (t .1))
+    ∙ horner-bits d (take d a) b i h₂ h₆ hb
 
 -- all ones or none
 spread-bit : (b j : ℕ) → b ≤ 1 → j < 64 → bit j (b * (2 ^ 64 - 1)) ≡ b
@@ -165,9 +178,14 @@ support-lane (suc d) (w ∷ a) i h =
     yes true = refl
     yes false = refl
 
-lanes-six : (v : ℕ) (ys : List (List ℕ)) → All (λ y. length y ≡ 6) ys → All SixBits (map (λ y. lane 6 y v) ys)
-lanes-six v [] a = tt
-lanes-six v (y ∷ ys) a = ((length-lane 6 y v (le-of-eq (sym (a .0))), lane-bits 6 y v), lanes-six v ys (a .1))
+-- a slice of six words has six of each row
+lanes-six : (v : ℕ) (ys : List (List ℕ)) → 6 ≤ length (packed (map (λ y. lane 6 y v) ys)) → All SixBits (map (λ y. lane 6 y v) ys)
+unfolding packed lane
+lanes-six v [] h = tt
+lanes-six v (y ∷ ys) h =
+    let n = zip-fits under (lane 6 y v) (packed (map (λ y. lane 6 y v) ys)) 6 h in
+    let l : 6 ≤ length y = omega (arith, n .0, length-map (take 6 y) (bit v), length-take 6 y) in
+    ((length-lane 6 y v l, lane-bits 6 y v), lanes-six v ys (n .1))
 
 pub point-bits : (d h : ℕ) → allInWidth 1 (point d h) ≡ true
 point-bits d h = ap (allInWidth 1) (sym (reduce-point 1 (le-refl 1) d h)) ∙ width-reduce 1 (point d h)
@@ -176,15 +194,11 @@ points-six : (hs : List ℕ) → All SixBits (map (point 6) hs)
 points-six [] = tt
 points-six (h ∷ hs) = ((length-point 6 h, point-bits 6 h), points-six hs)
 
-pub length-slice : (v m : ℕ) (ys : List (List ℕ)) → All (λ y. length y ≡ 6) (take m ys) → length (sliceOf v m ys) ≡ 6
-unfolding sliceOf
-length-slice v m ys a = length-packed (map (λ y. lane 6 y v) (take m ys)) (lanes-six v (take m ys) a)
-
 pub length-points : (m : ℕ) (hs : List ℕ) → length (pointsOf m hs) ≡ 6
 unfolding pointsOf
 length-points m hs = length-packed (map (point 6) (take m hs)) (points-six (take m hs))
 
-pub lane-slice : (d v m : ℕ) (ys : List (List ℕ)) (i : ℕ) → d ≤ 6 → m ≤ length ys → All (λ y. length y ≡ 6) (take m ys) → i < m
+pub lane-slice : (d v m : ℕ) (ys : List (List ℕ)) (i : ℕ) → d ≤ 6 → m ≤ length ys → length (sliceOf v m ys) ≡ 6 → i < m
     → lane d (sliceOf v m ys) i ≡ map (λ w. w / 2 ^ v % 2) (take d (getD ys i []))
 unfolding lane sliceOf
 lane-slice d v m ys i h₆ hm a h =
@@ -193,19 +207,19 @@ lane-slice d v m ys i h₆ hm a h =
     let y = getD ys i [] in
     map-take (bit i) d (packed (map f (take m ys)))
     ∙ ap (take d)
-    (packed-at (map f (take m ys)) (lanes-six v (take m ys) a) i [] (omega arith)
+    (packed-at (map f (take m ys)) (lanes-six v (take m ys) (le-of-eq (sym a))) i [] (omega arith)
     ∙ List·getD-map f (take m ys) i []
     ∙ ap f (getD-take m ys i [] h))
     ∙ sym (map-take (bit v) d (take 6 y))
     ∙ ap (map (bit v)) (take-take d 6 y h₆)
 
-pub lane-slice-above : (d v m : ℕ) (ys : List (List ℕ)) (i : ℕ) → d ≤ 6 → All (λ y. length y ≡ 6) (take m ys) → m ≤ i
+pub lane-slice-above : (d v m : ℕ) (ys : List (List ℕ)) (i : ℕ) → d ≤ 6 → length (sliceOf v m ys) ≡ 6 → m ≤ i
     → lane d (sliceOf v m ys) i ≡ zeroE d
 unfolding lane sliceOf
 lane-slice-above d v m ys i h₆ a h =
     let es = map (λ (y : List ℕ). lane 6 y v) (take m ys) in
     let n : length es ≤ i = omega (arith, length-map (take m ys) (λ (y : List ℕ). lane 6 y v), length-take m ys) in
-    map-take (bit i) d (packed es) ∙ ap (take d) (packed-above es (lanes-six v (take m ys) a) i n) ∙ zeros-take d h₆
+    map-take (bit i) d (packed es) ∙ ap (take d) (packed-above es (lanes-six v (take m ys) (le-of-eq (sym a))) i n) ∙ zeros-take d h₆
 
 point-take : (d n i : ℕ) → d ≤ n → take d (point n i) ≡ point d i
 unfolding point

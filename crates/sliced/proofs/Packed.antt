@@ -3,7 +3,7 @@
 use mathlib.Core.Path.{_≡_, refl, sym, ap₂, _∙_}
 use mathlib.Core.Bool.{true}
 use mathlib.Core.List.{List, [], _∷_, map}
-use Prim.Native.Nat.{ℕ, zero, suc, _^_, _≤_, _<_}
+use Prim.Native.Nat.{ℕ, zero, suc, _^_, _≤_, _<_, suc-le-suc}
 use native.Mathlib.Nat.{le-of-suc-le-suc, not-suc-le-zero, suc-inj, suc-ne-zero, pow-suc}
 use native.Mathlib.Omega.{arith}
 use lib.Pow.{pow-pos}
@@ -25,6 +25,14 @@ pub length-packed : (es : List Element) → All SixBits es → length (packed es
 unfolding packed
 length-packed [] a = refl
 length-packed (e ∷ es) a = let n = length-packed es (a .1) in length-zip under e (packed es) (a .0 .0 ∙ sym n) ∙ n
+
+-- what is made of two lists word by word is no longer than either
+pub zip-fits : (f : ℕ → ℕ → ℕ) (a b : List ℕ) (n : ℕ) → n ≤ length (zip f a b) → (n ≤ length a) × (n ≤ length b)
+unfolding zip
+zip-fits f a b zero h = (omega arith, omega arith)
+zip-fits f [] b (suc n) h = absurd (not-suc-le-zero h)
+zip-fits f (x ∷ a) [] (suc n) h = absurd (not-suc-le-zero h)
+zip-fits f (x ∷ a) (y ∷ b) (suc n) h = let r = zip-fits f a b n (le-of-suc-le-suc h) in (suc-le-suc (r .0), suc-le-suc (r .1))
 
 zip-low : (e p : List ℕ) → length e ≡ length p → allInWidth 1 e ≡ true → map (bit 0) (zip under e p) ≡ e
 unfolding zip allInWidth

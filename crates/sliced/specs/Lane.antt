@@ -27,7 +27,7 @@ shiftLanes d r = zip (downLane (getD r (d - 1) 0)) (0 ∷ r) (held d (lower d))
 abbrev pub plusLane : ℕ → ℕ → ℕ → ℕ
 plusLane c x y = bitXor x (bitAnd c y)
 
--- The product lane by lane, by Horner's rule in X, as `product` has it. What comes to stand at d and above never comes down.
+-- The product lane by lane, by Horner's rule in X, as `product` has it. What comes to stand at d and above never comes down, and is cleared.
 unfoldable pub horner : ℕ → List ℕ → List ℕ → List ℕ
 unfolding zip lower
 horner d [] b = zeroE 6
@@ -35,7 +35,7 @@ horner d (c ∷ a) b = zip (plusLane c) (shiftLanes d (horner d a b)) b
 
 unfoldable pub timesLanes : ℕ → List ℕ → List ℕ → List ℕ
 unfolding horner
-timesLanes d a b = horner d (take d a) b
+timesLanes d a b = held d (horner d (take d a) b)
 
 -- lane i in each of the 64 lanes: a word is all ones where lane i has a one
 unfoldable pub spreadLane : List ℕ → ℕ → List ℕ

@@ -1,5 +1,5 @@
 // Elements of the field of 2^d elements, the ring at k = 1, 64 at a time in bit slices: six words, whose lane i is the element with bit i of
-// word j for its word j. Lanes are read from the first d words; what stands after these is not cleared.
+// word j for its word j. Lanes are read from the first d words.
 ghost use mathlib.Core.Path.{_≡_};
 ghost use mathlib.Core.Bool.{true};
 ghost use mathlib.Core.List.{_∷_};
@@ -65,7 +65,7 @@ fn add_scaled(c: u64, s: [u64; 6], b: [u64; 6]) -> [u64; 6]
 }
 
 // The product lane by lane, by Horner's rule over the words of a from the top.
-pub fn times(d: usize, low: [u64; 6], a: [u64; 6], b: [u64; 6]) -> [u64; 6]
+fn times_by(d: usize, low: [u64; 6], a: [u64; 6], b: [u64; 6]) -> [u64; 6]
     requires { ⌜ ((2 ≤ d) × (d ≤ 6)) × (low ≡ held d (lower d)) ⌝ }
     ensures { λ r. ⌜ r ≡ timesLanes d a b ⌝ }
 {
@@ -76,7 +76,21 @@ pub fn times(d: usize, low: [u64; 6], a: [u64; 6], b: [u64; 6]) -> [u64; 6]
         let s = shift(d, low, r);
         r = add_scaled(a[i], s, b);
     }
-    r
+    ring::keep(d, r)
+}
+
+// The same. In each arm d and its row are constants, from which the compiler can make code for that d, with no loop and no tests.
+pub fn times(d: usize, low: [u64; 6], a: [u64; 6], b: [u64; 6]) -> [u64; 6]
+    requires { ⌜ ((2 ≤ d) × (d ≤ 6)) × (low ≡ held d (lower d)) ⌝ }
+    ensures { λ r. ⌜ r ≡ timesLanes d a b ⌝ }
+{
+    match d {
+        2 => times_by(2, ring::lower_of(2), a, b),
+        3 => times_by(3, ring::lower_of(3), a, b),
+        4 => times_by(4, ring::lower_of(4), a, b),
+        5 => times_by(5, ring::lower_of(5), a, b),
+        _ => times_by(6, ring::lower_of(6), a, b),
+    }
 }
 
 // Bit i of w in every lane.
@@ -122,7 +136,7 @@ fn push(x: u64, w: u64) -> u64
 // The element e in lane 0, and the elements of r each one lane up.
 fn prepend(e: [u64; 6], r: [u64; 6]) -> [u64; 6]
     requires { ⌜ (allInWidth 1 e ≡ true) × (allInWidth 63 r ≡ true) ⌝ }
-    ensures { λ s. ⌜ s ≡ zip under e r ⌝ }
+    ensures { λ s. ⌜ (s ≡ zip under e r) × (length s ≡ 6) ⌝ }
 {
     [
         push(e[0], r[0]),
@@ -149,10 +163,11 @@ fn bits_of(y: [u64; 6], v: u64) -> [u64; 6]
     ]
 }
 
-// Bit v of the words of ys[i] in lane i, for each i below m; the lanes from m on are zero.
+// Bit v of the words of ys[i] in lane i, for each i below m; the lanes from m on are zero. That the slice has six words tells the caller that
+// each row has.
 pub fn slice(v: u64, m: usize, ys: &[[u64; 6]; 63]) -> [u64; 6]
     requires { ⌜ (v < 64) × (m ≤ 63) × (m ≤ length (now ys)) ⌝ }
-    ensures { λ r. ⌜ r ≡ sliceOf v m (now (ys .entry)) ⌝ }
+    ensures { λ r. ⌜ (r ≡ sliceOf v m (now (ys .entry))) × (length r ≡ 6) ⌝ }
 {
     let mut r = [0u64; 6];
     let mut i = m;

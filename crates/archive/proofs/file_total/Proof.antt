@@ -1,14 +1,14 @@
 -- `file_total`: each return is a case of the total of one file. Assumes nothing.
 use borrow.Author.Needs.{needs}
-use mathlib.Core.Path.{_≡_, refl, sym, ap, ap₂, _∙_}
-use mathlib.Core.Bool.{true, false}
-use mathlib.Core.List.{List, [], _∷_, _++_}
-use Prim.Native.Nat.{ℕ, _+_, _-_, _*_, _≤_, _<_}
+use mathlib.Core.Path.{_≡_, sym, ap, _∙_}
+use mathlib.Core.List.{List}
+use Prim.Native.Nat.{ℕ, _-_}
 use native.Mathlib.Omega.{arith}
-use lib.ListN.{length, getD, drop, replicate}
+use lib.ListN.{length}
 use denote.Ref.{now}
 use borrow.Author.Tests.{not-true, not-false}
 use Rattle.words.specs.Refusal.{unless}
+use Rattle.words.proofs.InRange.{InRange}
 use Rattle.words.proofs.Refusal.{unless-yes, unless-no, kept-none}
 use Rattle.ring.specs.Element.{Element}
 use Rattle.ring.proofs.Calls.{stored}
@@ -19,11 +19,6 @@ use Rattle.archive.proofs.Runs.{total-length}
 use Rattle.archive.proofs.Faults.{declined, run-yes, run-low, run-high, file-total-2, file-total-9, file-total-3}
 use Rattle.archive.proofs.file_total.Statement.{statement}
 use Rattle.archive.proofs.file_total.Tie as tie
-use Rattle.archive.proofs.file_total.Reads as reads
-use Rattle.archive.proofs.file_total.Lts as lts
-use Rattle.archive.proofs.run_in_width.Reads as run-in-width-reads
-use Rattle.archive.proofs.run_total.Reads as run-total-reads
-use Rattle.ring.proofs.store.Reads as store-reads
 
 abbrev bs : tie.Start → List ℕ
 bs s = now (s .args .bytes)
@@ -34,8 +29,8 @@ old s = now (s .args .out)
 abbrev sum : tie.Start → Element
 sum s = runTotal (bs s) (s .args .f) (s .args .a) (s .args .b - s .args .a)
 
-high : (s : tie.Start) → s .args .h .params .d ≤ 6
-high s = ranges (bs s) (s .pre .0) (s .args .h) (s .pre .1) .book .d-high
+book : (s : tie.Start) → InRange (s .args .h .params)
+book s = ranges (bs s) (s .pre .0) (s .args .h) (s .pre .1) .book
 
 -- past 2 and 9 the number is by the width
 abbrev S : tie.Else3 → tie.Start
@@ -72,40 +67,50 @@ returns-3 c =
     (omega (arith, c .before .before .before .if1 .left))
     (run-high (bs s) (s .args .h) (s .pre .1) (s .args .a) (s .args .b) (c .if3 .taken))) (λ z. omega arith)
 
-run-in-width-requires : tie.Need-run-in-width-requires
-run-in-width-requires c κs = search needs
+run-sum-requires : tie.Need-run-sum-requires
+run-sum-requires c κs = search needs
+
+in-width-requires : tie.Need-in-width-requires
+in-width-requires c κs =
+    let s = S (c .before) in
+    (book s .k-low, book s .k-high)
+
+-- what the width is tested for
+tested : (c : tie.After-in-width) → let s = S (c .before .before) in
+    c .in-width .result ≡ runInWidth (bs s) (s .args .f) (s .args .a) (s .args .b - s .args .a)
+tested c = c .in-width .ensures ∙ c .before .run-sum .ensures .0
 
 returns-4 : tie.Need-returns-4
 returns-4 c =
-    let e = c .before .before in
+    let e = c .before .before .before in
     let s = S e in
-    declined _ 3 (old s) (sum s) (by-width e ∙ unless-no _ 3 (sym (c .before .run-in-width .ensures) ∙ not-true _ (c .if4 .taken)))
-    (λ z. omega arith)
+    declined _ 3 (old s) (sum s) (by-width e ∙ unless-no _ 3 (sym (tested (c .before)) ∙ not-true _ (c .if4 .taken))) (λ z. omega arith)
 
-run-total-requires : tie.Need-run-total-requires
-run-total-requires c κs = search needs
+reduce-requires : tie.Need-reduce-requires
+reduce-requires c κs =
+    let s = S (c .before .before .before .before .before) in
+    (book s .k-low, book s .k-high)
 
 store-requires : tie.Need-store-requires
-store-requires c κs =
-    (high (c .before .before .before .before .before .before .before .before .before .before .before), search needs)
+store-requires c κs = let b = book (S (c .before .before .before .before .before .before)) in ((b .d-low, b .d-high), search needs)
 
 same-length : tie.Need-same-length
 same-length c = search needs
 
 returns-5 : tie.Need-returns-5
 returns-5 c =
-    let e = c .before .before .before .before .before .before .before in
+    let e = c .before .before .before .before .before .before .before .before .before in
     let s = S e in
     let d = s .args .h .params .d in
-    let w = c .before .before .before .before .before in
-    let z : fault s ≡ 0 = by-width e ∙ unless-yes _ 3 (sym (w .before .run-in-width .ensures) ∙ not-false _ (w .if4 .left)) in
+    let w = c .before .before .before .before .before .before in
+    let z : fault s ≡ 0 = by-width e ∙ unless-yes _ 3 (sym (tested (w .before)) ∙ not-false _ (w .if4 .left)) in
     let n : length (sum s) ≡ d =
     total-length (bs s) (s .args .f) (s .args .a) (s .args .b - s .args .a) ∙ ap (λ (x : Heading). x .params .d) (sym (s .pre .1)) in
-    let r = c .before .before .before .before .run-total in (
+    let r = c .before .before .before .reduce in (
       sym z,
       c .before .before .store .ensures
-          ∙ stored d (old s) (r .result) (sum s)
-          (omega (arith, c .before .before .before .before .before .before .before .before .before .before .if1 .left)) (r .ensures) n
+          ∙ stored d (old s) (r .result) (sum s) (omega (arith, e .before .before .before .if1 .left))
+          (r .ensures ∙ w .before .before .run-sum .ensures .1) n
           ∙ sym (kept-none _ (old s) (sum s) z),
     )
 
@@ -116,9 +121,10 @@ file-total-spec =
     returns
     returns-2
     returns-3
-    run-in-width-requires
+    run-sum-requires
+    in-width-requires
     returns-4
-    run-total-requires
+    reduce-requires
     store-requires
     same-length
     returns-5)

@@ -1,24 +1,18 @@
 -- The loop of `load_holders`: the holders passed are in their places. Assumes nothing.
 use borrow.Author.Needs.{needs}
 use native.Mathlib.Omega.{arith}
-use mathlib.Core.Path.{_≡_, refl, sym, ap, ap₂, _∙_}
-use mathlib.Core.Bool.{true, false}
-use mathlib.Core.List.{List, [], _∷_, _++_}
-use Prim.Native.Nat.{ℕ, _+_, _-_, _*_, _≤_, _<_}
-use lib.ListN.{length, getD, drop, replicate}
-use lib.Seq.{paste}
+use mathlib.Core.Path.{_≡_}
+use Prim.Native.Nat.{ℕ, _-_, _≤_}
+use lib.ListN.{length, replicate, length-replicate}
 use denote.Ref.{now}
-use Rattle.archive.specs.Archive.{valuesFrom, holderOf}
+use Rattle.archive.specs.Archive.{holderOf}
 use Rattle.archive.proofs.Values.{filled, values-start, values-next, values-done}
 use Rattle.archive.proofs.Accepted.{files-high}
 use Rattle.archive.proofs.load_holders.Statement.{statement}
 use Rattle.archive.proofs.load_holders.Tie as tie
-use Rattle.archive.proofs.load_holders.Reads as reads
-use Rattle.archive.proofs.load_holders.Lts as lts
-use Rattle.fetch.proofs.file_holder.Reads as file-holder-reads
 
 abbrev Inv-loop : tie.InvT-loop
-Inv-loop bytes h files holders₀ f₀ holders f = (f ≤ files) × (holders ≡ filled (holderOf bytes) files 63 0 f)
+Inv-loop bytes h files holders₀ f₀ holders f = (f ≤ files) × (holders ≡ filled (holderOf bytes) files (replicate 63 0) f)
 
 abbrev μ-loop : tie.MeasureT-loop
 μ-loop bytes h files holders₀ f₀ holders f = files - f
@@ -26,10 +20,13 @@ abbrev μ-loop : tie.MeasureT-loop
 few : (s : tie.Start Inv-loop μ-loop) → s .args .files ≤ 63
 few s = omega (arith, s .pre .2, files-high (now (s .args .bytes)) (s .pre .0))
 
+room : (s : tie.Start Inv-loop μ-loop) → s .args .files ≤ length {A = ℕ} (replicate 63 0)
+room s = rw (length-replicate {A = ℕ} 63 0) (few s)
+
 loop-holds : tie.Need-loop-holds Inv-loop μ-loop
 loop-holds c =
     let s = c .before in
-    (search needs, values-start (holderOf (now (s .args .bytes))) (s .args .files) 63 0)
+    (search needs, values-start (holderOf (now (s .args .bytes))) (s .args .files) (replicate 63 0))
 
 file-holder-requires : tie.Need-file-holder-requires Inv-loop μ-loop
 file-holder-requires c κs = search needs
@@ -51,8 +48,8 @@ loop-again c =
     let s = c .before .before .before .before in
     let l = c .before .before in (
       search needs,
-      values-next (holderOf (now (s .args .bytes))) (s .args .files) 63 0 (l .loop .holders) (l .loop .f) (c .file-holder .result) (l .loop .inv .1)
-          (omega arith) (few s) (c .file-holder .ensures),
+      values-next (holderOf (now (s .args .bytes))) (s .args .files) (replicate 63 0) (l .loop .holders) (l .loop .f) (c .file-holder .result)
+          (l .loop .inv .1) (omega arith) (room s) (c .file-holder .ensures),
     )
 
 returns : tie.Need-returns Inv-loop μ-loop
@@ -60,7 +57,7 @@ returns c =
     let s = c .before .before .before in
     let l = c .before in
     let e : l .loop .f ≡ s .args .files = omega arith in
-    values-done (holderOf (now (s .args .bytes))) (s .args .files) 63 0 (l .loop .holders) (l .loop .f) (l .loop .inv .1) e
+    values-done (holderOf (now (s .args .bytes))) (s .args .files) (replicate 63 0) (l .loop .holders) (l .loop .f) (l .loop .inv .1) e
 
 pub load-holders-spec : {M : Type 1} → statement M
 load-holders-spec =

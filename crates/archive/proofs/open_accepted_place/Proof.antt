@@ -60,7 +60,8 @@ hand-out-requires : tie.Need-hand-out-requires
 hand-out-requires c κs =
     let s = c .before .before .before .before .before .before .before .before .before in
     let h = c .before .before .before .before .before .before .heading-at in
-    (ranges (bs s) (s .pre .0) (h .result) (h .ensures) .book .d-high, omega (arith, c .before .before .before .before .if1 .left))
+    let b = ranges (bs s) (s .pre .0) (h .result) (h .ensures) .book in
+    ((b .d-low, b .d-high), omega (arith, c .before .before .before .before .if1 .left))
 
 same-length : tie.Need-same-length
 same-length c = search needs

@@ -1,132 +1,29 @@
--- `place_answer`: the decoder is asked about the shares present for the job. Assumes nothing.
+-- `place_answer`: opening a place is opening the run of that place alone. Assumes nothing.
 use borrow.Author.Needs.{needs}
-use mathlib.Core.Path.{_≡_, refl, sym, ap, ap₂, _∙_}
-use mathlib.Core.Bool.{true, false}
-use mathlib.Core.List.{List, [], _∷_, _++_}
-use Prim.Native.Nat.{ℕ, _+_, _-_, _*_, _≤_, _<_}
-use native.Mathlib.Omega.{arith}
-use lib.ListN.{length, take, drop, replicate}
+use mathlib.Core.Path.{_≡_, sym, ap, _∙_}
+use Prim.Native.Nat.{_+_, _-_}
 use denote.Ref.{now}
-use borrow.Author.Tests.{not-true, not-false}
-use Rattle.ring.specs.Element.{Element, zeroE, held}
-use Rattle.codewords.specs.Codeword.{Share}
-use Rattle.level.specs.Shares.{sharesOf}
-use Rattle.sharing.specs.Opening.{Opening, faultOf, wrongOf, wordsOf as outputOf, answerTo}
-use Rattle.sharing.proofs.Answers.{declined-parts}
-use Rattle.bundle.specs.Contents.{wordsOf}
-use Rattle.records.specs.declared.Heading.{Heading}
-use Rattle.archive.specs.Archive.{filesInWidth, sharesBy, placeOpening}
-use Rattle.archive.proofs.Accepted.{ranges}
-use Rattle.archive.proofs.Runs.{words-length}
-use Rattle.archive.proofs.Faults.{place-wide, place-narrow}
-use Rattle.archive.proofs.Loaded.{loaded}
-use Rattle.archive.proofs.Present.{place-element, askable, answered}
+use Rattle.ring.specs.Element.{zeroE, held}
+use Rattle.sharing.specs.Opening.{Opening, faultOf, wrongOf, wordsOf as outputOf}
+use Rattle.archive.specs.Archive.{placeOpening, runOpening}
+use Rattle.archive.proofs.Pass.{place-run}
 use Rattle.archive.proofs.place_answer.Statement.{statement}
 use Rattle.archive.proofs.place_answer.Tie as tie
-use Rattle.archive.proofs.place_answer.Reads as reads
-use Rattle.archive.proofs.place_answer.Lts as lts
-use Rattle.archive.proofs.allowance.Reads as allowance-reads
-use Rattle.sharing.proofs.answer_to.Reads as answer-to-reads
-use Rattle.archive.proofs.files_in_width.Reads as files-in-width-reads
-use Rattle.archive.proofs.load_holders.Reads as load-holders-reads
-use Rattle.archive.proofs.load_place.Reads as load-place-reads
-use Rattle.archive.proofs.wide_answer.Reads as wide-answer-reads
 
-abbrev bs : tie.Start → List ℕ
-bs s = now (s .args .bytes)
+add-run-answer : tie.Need-add-run-answer
+add-run-answer c = search needs
 
-abbrev O : tie.Start → Opening
-O s = placeOpening (bs s) (s .args .place)
-
--- the words of each file's share
-abbrev words : tie.Start → ℕ → Element
-words s f = wordsOf (bs s) f (s .args .place)
-
-high : (s : tie.Start) → s .args .h .params .d ≤ 6
-high s = ranges (bs s) (s .pre .0) (s .args .h) (s .pre .1) .book .d-high
-
--- what the width is tested for
-tested : (c : tie.After-files-in-width) → let s = c .before .before in c .files-in-width .result ≡ filesInWidth (bs s) (s .args .place) 1
-tested c =
-    let s = c .before .before in
-    let e : s .args .place + 1 - s .args .place ≡ 1 = omega arith in
-    c .files-in-width .ensures ∙ ap (filesInWidth (bs s) (s .args .place)) e
-
--- the shares in arrays are the files'
-abbrev S : tie.After-load-place → tie.Start
-S c = c .before .before .before .before .before
-
-abbrev shares : tie.After-load-place → List Share
-shares c = sharesOf (S c .args .h .params .d) (S c .args .files) (c .before .load-holders .result) (c .load-place .result)
-
-same : (c : tie.After-load-place) → shares c ≡ sharesBy (bs (S c)) (words (S c))
-same c =
-    let s = S c in
-    let n = s .args .files in
-    loaded (bs s) (words s) (s .args .h .params .d) (c .before .load-holders .result) (c .load-place .result) (drop n (replicate 63 0))
-    (drop n (replicate 63 (replicate 6 0))) n (s .pre .2) (c .before .load-holders .ensures) (c .load-place .ensures)
-    (λ f. words-length (bs s) f (s .args .place) ∙ ap (λ (x : Heading). x .params .d) (sym (s .pre .1)))
-
-add-files-in-width : tie.Need-add-files-in-width
-add-files-in-width c = search needs
-
-files-in-width-requires : tie.Need-files-in-width-requires
-files-in-width-requires c κs = search needs
-
-wide-answer-requires : tie.Need-wide-answer-requires
-wide-answer-requires c κs = search needs
+run-answer-requires : tie.Need-run-answer-requires
+run-answer-requires c κs = search needs
 
 returns : tie.Need-returns
 returns c =
-    let s = c .before .before .before .before in
-    let q = declined-parts (s .args .h .params .d) (high s) 3 (O s)
-    (place-wide (bs s) (s .args .place) (sym (tested (c .before .before)) ∙ not-true _ (c .before .if1 .taken))) in
-    let r = c .wide-answer .ensures in
-    (r .0 ∙ q .0, r .1 ∙ q .1, r .2 ∙ q .2)
-
-load-holders-requires : tie.Need-load-holders-requires
-load-holders-requires c κs = search needs
-
-load-place-requires : tie.Need-load-place-requires
-load-place-requires c κs = search needs
-
-allowance-requires : tie.Need-allowance-requires
-allowance-requires c κs = search needs
-
-answer-to-requires : tie.Need-answer-to-requires
-answer-to-requires c κs =
-    let a = c .before .before in
-    let s = S a in
-    askable (bs s) (s .pre .0) (s .args .h) (s .pre .1) (words s) (shares a) (same a) (s .args .files) (s .pre .2)
-    (λ f l. place-element (bs s) (s .args .place) f
-    (sym (tested (c .before .before .before .before .before)) ∙ not-false _ (c .before .before .before .before .if1 .left)) l)
-
-returns-2 : tie.Need-returns-2
-returns-2 c =
-    let a = c .before .before .before in
-    let s = S a in
-    let h = s .args .h in
-    let e = c .before .allowance in
-    let r = c .answer-to .ensures in
-    let o : answerTo (h .params) (e .result) (shares a) ≡ O s =
-    answered (bs s) (s .pre .0) h (s .pre .1) (words s) (shares a) (same a) (e .result) (e .ensures)
-    ∙ sym (place-narrow (bs s) (s .args .place)
-    (sym (tested (c .before .before .before .before .before .before)) ∙ not-false _ (c .before .before .before .before .before .if1 .left))) in (
-      r .0 ∙ ap faultOf o,
-      r .1 ∙ ap wrongOf o,
-      r .2 ∙ ap (λ (x : Opening). held (h .params .d) (outputOf (zeroE (h .params .d)) x)) o,
-    )
+    let s = c .before .before in
+    let d = s .args .h .params .d in
+    let r = c .run-answer .ensures in
+    let p = s .args .place in
+    let o : runOpening (now (s .args .bytes)) p (p + 1 - p) ≡ placeOpening (now (s .args .bytes)) p = sym (place-run (now (s .args .bytes)) p) in
+    (r .0 ∙ ap faultOf o, r .1 ∙ ap wrongOf o, r .2 ∙ ap (λ (x : Opening). held d (outputOf (zeroE d) x)) o)
 
 pub place-answer-spec : {M : Type 1} → statement M
-place-answer-spec =
-    tie.close
-    (tie.spec
-    add-files-in-width
-    files-in-width-requires
-    wide-answer-requires
-    returns
-    load-holders-requires
-    load-place-requires
-    allowance-requires
-    answer-to-requires
-    returns-2)
+place-answer-spec = tie.close (tie.spec add-run-answer run-answer-requires returns)

@@ -47,18 +47,18 @@ fits c =
       known-job-min (c .before .before .before .args .len) (c .before .before .before .pre .0),
     )
 
-add-number : tie.Need-add-number
-add-number c = search needs
+add-word-at : tie.Need-add-word-at
+add-word-at c = search needs
 
-number-requires : tie.Need-number-requires
-number-requires c κs = omega (arith, fits c)
+word-at-requires : tie.Need-word-at-requires
+word-at-requires c κs = omega (arith, fits c)
 
 rises-requires : tie.Need-rises-requires
 rises-requires c κs = search needs
 
-num-is : (c : tie.After-number) → c .number .result ≡ numOf (bs (c .before .before .before .before)) (c .before .before .before .before .args .at)
+num-is : (c : tie.After-word-at) → c .word-at .result ≡ numOf (bs (c .before .before .before .before)) (c .before .before .before .before .args .at)
 unfolding numOf
-num-is c = c .number .ensures
+num-is c = c .word-at .ensures
 
 rises-is : (c : tie.After-rises) → (eqb (c .before .before .before .before .before .args .p) 0 || ltb
     (c .before .before .before .before .before .args .prev) (numOf (bs (c .before .before .before .before .before))
@@ -72,21 +72,21 @@ returns-2 c =
     sym (job-low (bs (c .before .before .before .before .before .before)) (a .len) (a .base) (a .prev) (a .p) (a .at)
     (framed-yes (c .before .before .before)) (rises-is (c .before) ∙ not-true _ (c .if2 .taken)))
 
-add-number-2 : tie.Need-add-number-2
-add-number-2 c = search needs
+add-word-at-2 : tie.Need-add-word-at-2
+add-word-at-2 c = search needs
 
-number-requires-2 : tie.Need-number-requires-2
-number-requires-2 c κs = omega (arith, fits (c .before .before .before), c .before .before .before .before .before .before .pre)
+word-at-requires-2 : tie.Need-word-at-requires-2
+word-at-requires-2 c κs = omega (arith, fits (c .before .before .before), c .before .before .before .before .before .before .pre)
 
-last : (c : tie.After-number2) → let a = c .before .before .before .before .before .before .before .args in
+last : (c : tie.After-word-at2) → let a = c .before .before .before .before .before .before .before .args in
     jobFaultAt (bs (c .before .before .before .before .before .before .before)) (a .len) (a .base) (a .prev) (a .p) (a .at) ≡ unless
-    (eqb (c .number2 .result) (c .before .before .before .number .result)) 8
+    (eqb (c .word-at2 .result) (c .before .before .before .word-at .result)) 8
 unfolding numOf
 last c =
     let a = c .before .before .before .before .before .before .before .args in
     job-8 (bs (c .before .before .before .before .before .before .before)) (a .len) (a .base) (a .prev) (a .p) (a .at)
     (framed-yes (c .before .before .before .before)) (rises-is (c .before .before) ∙ not-false _ (c .before .if2 .left))
-    ∙ ap₂ (λ (x y : ℕ). unless (eqb x y) 8) (sym (c .number2 .ensures)) (sym (num-is (c .before .before .before)))
+    ∙ ap₂ (λ (x y : ℕ). unless (eqb x y) 8) (sym (c .word-at2 .ensures)) (sym (num-is (c .before .before .before)))
 
 returns-3 : tie.Need-returns-3
 returns-3 c = sym (last (c .before) ∙ unless-no _ 8 (ne-eqb _ _ (c .if3 .taken)))
@@ -97,4 +97,4 @@ returns-4 c = sym (last (c .before) ∙ unless-yes _ 8 (eq-eqb _ _ (c .if3 .left
 pub job-fault-spec : {M : Type 1} → statement M
 job-fault-spec =
     tie.close
-    (tie.spec is-record-requires returns add-number number-requires rises-requires returns-2 add-number-2 number-requires-2 returns-3 returns-4)
+    (tie.spec is-record-requires returns add-word-at word-at-requires rises-requires returns-2 add-word-at-2 word-at-requires-2 returns-3 returns-4)

@@ -55,8 +55,8 @@ low c =
     let j = c .before .before .before .loop .inv .1 in
     omega (arith, j .first-is, j .at-is, c .before .before .before .before .before .pre)
 
-add-number : tie.Need-add-number Inv-loop μ-loop
-add-number c = omega (
+add-word-at : tie.Need-add-word-at Inv-loop μ-loop
+add-word-at c = omega (
   arith,
   fits c,
   known-job-min (c .before .before .before .before .before .args .len)
@@ -64,8 +64,8 @@ add-number c = omega (
   c .before .before .before .before .before .good,
 )
 
-number-requires : tie.Need-number-requires Inv-loop μ-loop
-number-requires c κs = omega (
+word-at-requires : tie.Need-word-at-requires Inv-loop μ-loop
+word-at-requires c κs = omega (
   arith,
   fits c,
   known-job-min (c .before .before .before .before .before .args .len)
@@ -90,10 +90,10 @@ add-p c = omega (arith, c .before .before .before .loop-test .taken, c .before .
 loop-less : tie.Need-loop-less Inv-loop μ-loop
 loop-less c = omega (arith, c .before .before .before .loop-test .taken)
 
-num-is : (c : tie.After-number Inv-loop μ-loop) → c .number .result ≡ numOf (now (c .before .before .before .before .before .before .args .bytes))
+num-is : (c : tie.After-word-at Inv-loop μ-loop) → c .word-at .result ≡ numOf (now (c .before .before .before .before .before .before .args .bytes))
     (c .before .before .before .before .loop .here)
 unfolding numOf
-num-is c = c .number .ensures
+num-is c = c .word-at .ensures
 
 loop-again : tie.Need-loop-again Inv-loop μ-loop
 unfolding recordSize
@@ -113,5 +113,5 @@ returns-2 c =
 pub jobs-fault-spec : {M : Type 1} → statement M
 jobs-fault-spec =
     tie.close
-    (tie.spec Inv-loop μ-loop loop-holds job-fault-requires returns add-number number-requires add-first add-first-2
+    (tie.spec Inv-loop μ-loop loop-holds job-fault-requires returns add-word-at word-at-requires add-first add-first-2
     add-here add-here-2 add-p loop-less loop-again returns-2)

@@ -2,57 +2,64 @@
 use borrow.Author.Needs.{needs}
 use native.Mathlib.Omega.{arith}
 use mathlib.Core.Path.{_≡_, sym, _∙_, ap}
-use Prim.Native.Nat.{suc, _-_, _≤_, _<_}
-use lib.ListN.{length}
-use Rattle.polynomial.specs.Rows.{coefs}
-use Rattle.polynomial.proofs.Shape.{shaped-good}
-use Rattle.codewords.specs.Codeword.{Share, Polynomial, errorSet}
-use Rattle.codewords.specs.WellFormed.{IsElement}
+use mathlib.Core.List.{[]}
+use Prim.Native.Nat.{_-_, _≤_, _<_}
+use lib.ListN.{length, getD, take}
+use Rattle.codewords.specs.Codeword.{errorSet}
 use Rattle.level.specs.Shares.{shareAt, sharesFrom}
-use Rattle.level.proofs.Shares.{from-end}
-use Rattle.decoder.specs.Residues.{bitsOfAll}
-use Rattle.decoder.proofs.Arrays.{at-index}
-use Rattle.decoder.proofs.Compared.{differs-true, differs-false, compare-start, holder-low, holder-high, bits-more, set-same, set-more}
+use Rattle.level.proofs.Shares.{from-end, sized-at}
+use Rattle.decoder.specs.Residues.{bitsOf, bitsOfAll}
+use Rattle.decoder.proofs.Lowest.{sixBits, bits-six}
+use Rattle.decoder.proofs.Compared.{differs-false, differs-true, compare-start, holder-low, holder-high, bits-more, set-same, set-more}
 use Rattle.decoder.proofs.compare.Statement.{statement}
 use Rattle.decoder.proofs.compare.Tie as tie
 
 abbrev Inv-loop : tie.InvT-loop
-Inv-loop k d low t m hs ys p set₀ bits₀ i₀ set bits i =
-    (i ≤ m) × (set ≡ errorSet k d (coefs d (suc t) p) (sharesFrom d hs ys i (m - i)))
-    × (bits ≡ bitsOfAll k d (coefs d (suc t) p) (sharesFrom d hs ys i (m - i)))
+Inv-loop m hs rest set₀ bits₀ i₀ set bits i =
+    (i ≤ m) × (set ≡ errorSet 64 6 [] (sharesFrom 6 hs rest i (m - i))) × (bits ≡ bitsOfAll (sharesFrom 6 hs rest i (m - i)))
 
 abbrev μ-loop : tie.MeasureT-loop
-μ-loop k d low t m hs ys p set₀ bits₀ i₀ set bits i = i
+μ-loop m hs rest set₀ bits₀ i₀ set bits i = i
 
-abbrev poly : tie.Start Inv-loop μ-loop → Polynomial
-poly s = coefs (s .args .d) (suc (s .args .t)) (s .args .t4)
+-- the row that is looked at
+six : (l : tie.At-loop Inv-loop μ-loop) → 0 < l .loop .i → length (take 6 (getD (l .before .args .rest .now) (l .loop .i - 1) [])) ≡ 6
+six l h =
+    let a = l .before .args in
+    sized-at 6 (a .hs .now) (a .rest .now) (a .m) (l .loop .i - 1) (l .before .pre .2) (omega (arith, l .loop .inv .0))
+
+bits-at : (l : tie.At-loop Inv-loop μ-loop) → 0 < l .loop .i →
+    (let u = getD (l .before .args .rest .now) (l .loop .i - 1) [] in sixBits u ≡ bitsOf (take 6 u))
+bits-at l h = bits-six (getD (l .before .args .rest .now) (l .loop .i - 1) []) (six l h)
 
 loop-holds : tie.Need-loop-holds Inv-loop μ-loop
-loop-holds c =
-    let a = c .args in
-    let x = compare-start (a .d) (omega arith) (a .k) (poly c) (a .m) (a .hs .now) (a .ys .now) (c .pre .6) in
-    (omega arith, x .0, x .1)
+loop-holds c = let x = compare-start (c .args .m) (c .args .hs .now) (c .args .rest .now) (c .pre .1) in (omega arith, x .0, x .1)
 
 sub-i : tie.Need-sub-i Inv-loop μ-loop
 sub-i c = search needs
 
-mul-residue-bits : tie.Need-mul-residue-bits Inv-loop μ-loop
-mul-residue-bits c = search needs
+mul-u : tie.Need-mul-u Inv-loop μ-loop
+mul-u c = search needs
 
-element-copy-out-residue-bits : tie.Need-element-copy-out-residue-bits Inv-loop μ-loop
-element-copy-out-residue-bits c = search needs
+element-copy-out-u : tie.Need-element-copy-out-u Inv-loop μ-loop
+element-copy-out-u c = search needs
 
-mul-residue-bits-2 : tie.Need-mul-residue-bits-2 Inv-loop μ-loop
-mul-residue-bits-2 c = search needs
+array-read-b : tie.Need-array-read-b Inv-loop μ-loop
+array-read-b c = search needs
 
-element-copy-out-residue-bits-2 : tie.Need-element-copy-out-residue-bits-2 Inv-loop μ-loop
-element-copy-out-residue-bits-2 c = search needs
+array-read-b-2 : tie.Need-array-read-b-2 Inv-loop μ-loop
+array-read-b-2 c = search needs
 
-residue-bits-requires : tie.Need-residue-bits-requires Inv-loop μ-loop
-residue-bits-requires c κs =
-    let s = c .before .before .before .before .before in
-    let h : length (s .args .t4) ≡ 64 = omega (arith, s .good) in
-    (s .pre .0, s .pre .1, s .pre .2, s .pre .3, shaped-good (s .args .t4) _ h (s .good .1 .1 .1 .0))
+array-read-b-3 : tie.Need-array-read-b-3 Inv-loop μ-loop
+array-read-b-3 c = search needs
+
+array-read-b-4 : tie.Need-array-read-b-4 Inv-loop μ-loop
+array-read-b-4 c = search needs
+
+array-read-b-5 : tie.Need-array-read-b-5 Inv-loop μ-loop
+array-read-b-5 c = search needs
+
+array-read-b-6 : tie.Need-array-read-b-6 Inv-loop μ-loop
+array-read-b-6 c = search needs
 
 mul-set : tie.Need-mul-set Inv-loop μ-loop
 mul-set c = search needs
@@ -62,38 +69,31 @@ element-copy-out-set c = search needs
 
 sub-set : tie.Need-sub-set Inv-loop μ-loop
 sub-set c =
-    let l = c .before .before .before .before .before .before .before in
-    let s = l .before in
-    let a = s .args in
-    let h : 0 < l .loop .i = omega arith in
-    omega (arith, holder-low (a .d) (omega arith) (a .k) (poly s) (a .m) (a .hs .now) (a .ys .now) (s .pre .6) (l .loop .i) h (l .loop .inv .0))
+    let l = c .before .before .before .before in
+    let a = l .before .args in
+    omega (arith, holder-low (a .m) (a .hs .now) (a .rest .now) (l .before .pre .1) (l .loop .i) (omega arith) (l .loop .inv .0))
 
 shl-set : tie.Need-shl-set Inv-loop μ-loop
 shl-set c =
-    let l = c .before .before .before .before .before .before .before in
-    let s = l .before in
-    let a = s .args in
-    let h : 0 < l .loop .i = omega arith in
-    omega (arith, holder-high (a .d) (omega arith) (a .k) (poly s) (a .m) (a .hs .now) (a .ys .now) (s .pre .6) (l .loop .i) h (l .loop .inv .0))
+    let l = c .before .before .before .before in
+    let a = l .before .args in
+    omega (arith, holder-high (a .m) (a .hs .now) (a .rest .now) (l .before .pre .1) (l .loop .i) (omega arith) (l .loop .inv .0))
 
 loop-less : tie.Need-loop-less Inv-loop μ-loop
 loop-less c = search needs
 
 loop-again : tie.Need-loop-again Inv-loop μ-loop
 loop-again c =
-    let l = c .before .before .before .before .before .before .before in
-    let s = l .before in
-    let a = s .args in
+    let l = c .before .before .before .before in
+    let a = l .before .args in
+    let h = a .hs .now in
+    let r = a .rest .now in
     let i = l .loop .i in
-    let w = at-index (a .d) (λ (x : Share). IsElement (a .k) (a .d) (x .words)) (a .hs .now) (a .ys .now) (a .m) (i - 1) (omega arith) (s .pre .7) in
-    let x = shareAt (a .d) (a .hs .now) (a .ys .now) (i - 1) in
-    let b = c .before .before .residue-bits in (
+    let b = bits-at l (omega arith) in (
       omega arith,
-      set-more (a .d) (omega arith) (a .k) (poly s) (a .m) (a .hs .now) (a .ys .now) (s .pre .6) i (omega arith) (l .loop .inv .0)
-          (differs-true (a .d) (omega arith) (omega arith) (a .k) (a .t) (poly s) (s .pre .5) x w (λ z. c .before .if1 .taken (b .ensures ∙ z)))
-          (l .loop .set) (l .loop .inv .1),
-      bits-more (a .d) (omega arith) (a .k) (poly s) (a .m) (a .hs .now) (a .ys .now) (s .pre .6) i (omega arith) (l .loop .inv .0)
-          (b .result) (l .loop .bits) (b .ensures) (l .loop .inv .2),
+      set-more (a .m) h r (l .before .pre .1) i (omega arith) (l .loop .inv .0)
+          (differs-true (shareAt 6 h r (i - 1)) (λ z. c .before .if1 .taken (b ∙ z))) (l .loop .set) (l .loop .inv .1),
+      bits-more (a .m) h r (l .before .pre .1) i (omega arith) (l .loop .inv .0) (sixBits (getD r (i - 1) [])) (l .loop .bits) b (l .loop .inv .2),
     )
 
 loop-less-2 : tie.Need-loop-less-2 Inv-loop μ-loop
@@ -101,29 +101,26 @@ loop-less-2 c = search needs
 
 loop-again-2 : tie.Need-loop-again-2 Inv-loop μ-loop
 loop-again-2 c =
-    let l = c .before .before .before .before .before .before in
-    let s = l .before in
-    let a = s .args in
+    let l = c .before .before .before in
+    let a = l .before .args in
+    let h = a .hs .now in
+    let r = a .rest .now in
     let i = l .loop .i in
-    let w = at-index (a .d) (λ (x : Share). IsElement (a .k) (a .d) (x .words)) (a .hs .now) (a .ys .now) (a .m) (i - 1) (omega arith) (s .pre .7) in
-    let x = shareAt (a .d) (a .hs .now) (a .ys .now) (i - 1) in
-    let b = c .before .residue-bits in (
+    let b = bits-at l (omega arith) in (
       omega arith,
       l .loop .inv .1
-          ∙ set-same (a .d) (omega arith) (a .k) (poly s) (a .m) (a .hs .now) (a .ys .now) (s .pre .6) i (omega arith) (l .loop .inv .0)
-          (differs-false (a .d) (omega arith) (omega arith) (a .k) (a .t) (poly s) (s .pre .5) x w (sym (b .ensures) ∙ c .if1 .left)),
-      bits-more (a .d) (omega arith) (a .k) (poly s) (a .m) (a .hs .now) (a .ys .now) (s .pre .6) i (omega arith) (l .loop .inv .0)
-          (b .result) (l .loop .bits) (b .ensures) (l .loop .inv .2),
+          ∙ set-same (a .m) h r (l .before .pre .1) i (omega arith) (l .loop .inv .0)
+          (differs-false (shareAt 6 h r (i - 1)) (six l (omega arith)) (sym b ∙ c .if1 .left)),
+      bits-more (a .m) h r (l .before .pre .1) i (omega arith) (l .loop .inv .0) (sixBits (getD r (i - 1) [])) (l .loop .bits) b (l .loop .inv .2),
     )
 
 returns : tie.Need-returns Inv-loop μ-loop
 returns c =
     let l = c .before in
-    let s = l .before in
-    let a = s .args in
+    let a = l .before .args in
     let e : l .loop .i ≡ 0 = omega arith in
-    let f = from-end (a .d) (a .hs .now) (a .ys .now) (l .loop .i) (a .m) e in
-    (l .loop .inv .1 ∙ ap (errorSet (a .k) (a .d) (poly s)) f, l .loop .inv .2 ∙ ap (bitsOfAll (a .k) (a .d) (poly s)) f)
+    let f = from-end 6 (a .hs .now) (a .rest .now) (l .loop .i) (a .m) e in
+    (l .loop .inv .1 ∙ ap (errorSet 64 6 []) f, l .loop .inv .2 ∙ ap bitsOfAll f)
 
 pub compare-spec : {M : Type 1} → statement M
 compare-spec =
@@ -133,11 +130,14 @@ compare-spec =
     μ-loop
     loop-holds
     sub-i
-    mul-residue-bits
-    element-copy-out-residue-bits
-    mul-residue-bits-2
-    element-copy-out-residue-bits-2
-    residue-bits-requires
+    mul-u
+    element-copy-out-u
+    array-read-b
+    array-read-b-2
+    array-read-b-3
+    array-read-b-4
+    array-read-b-5
+    array-read-b-6
     mul-set
     element-copy-out-set
     sub-set

@@ -1,30 +1,37 @@
 -- `decoder::interpolate` meets its contract: after each turn the rows go through the shares passed. Assumes nothing.
 use borrow.Author.Needs.{needs}
 use native.Mathlib.Omega.{arith}
-use Prim.Native.Nat.{suc, _+_, _-_, _≤_}
+use Prim.Native.Nat.{suc, _+_, _≤_}
 use Rattle.algebra.proofs.Shares.{all-map}
-use Rattle.level.specs.Shares.{sharesFrom, sharesOf}
-use Rattle.decoder.proofs.Interpolated.{Interpolated, interpolate-start, interpolate-turn, interpolate-shaped, interpolate-end}
+use Rattle.polynomial.specs.Rows.{Shaped}
+use Rattle.level.specs.Shares.{sharesOf}
+use Rattle.decoder.proofs.Interpolated.{Passed, interpolate-start, interpolate-turn, interpolate-end}
 use Rattle.decoder.proofs.interpolate.Statement.{statement}
 use Rattle.decoder.proofs.interpolate.Tie as tie
 
 abbrev Inv-loop : tie.InvT-loop
 Inv-loop k d low t hs ys q₀ nodal₀ i₀ q nodal i =
-    (i ≤ t + 1) × ((h : 1 ≤ k) (dl : 2 ≤ d) (dh : d ≤ 6) → Interpolated k d h dl dh (sharesFrom d hs ys i (suc t - i)) q nodal)
+    (i ≤ t + 1) × Shaped q × Shaped nodal × ((h : 1 ≤ k) (dl : 2 ≤ d) (dh : d ≤ 6) → Passed k d h dl dh t hs ys i q nodal)
 
 abbrev μ-loop : tie.MeasureT-loop
 μ-loop k d low t hs ys q₀ nodal₀ i₀ q nodal i = i
 
-array-set-from-nodal : tie.Need-array-set-from-nodal Inv-loop μ-loop
-array-set-from-nodal c = search needs
+clear-rows-requires : tie.Need-clear-rows-requires Inv-loop μ-loop
+clear-rows-requires c κs = search needs
 
 add-i : tie.Need-add-i Inv-loop μ-loop
 add-i c = search needs
 
 loop-holds : tie.Need-loop-holds Inv-loop μ-loop
 loop-holds c =
-    let a = c .args in
-    (omega arith, λ h dl dh. interpolate-start (a .k) (a .d) h dl dh (a .t) (omega arith) (a .hs .now) (a .ys .now))
+    let a = c .before .before .before .args in
+    let e = c .clear-rows .ensures in (
+      omega arith,
+      e .2,
+      e .3,
+      λ h dl dh. interpolate-start (a .k) (a .d) h dl dh (a .t) (a .hs .now) (a .ys .now) (c .clear-rows .last .1 .0) (c .clear-rows .last .1 .1 .0)
+          (e .0) (e .1),
+    )
 
 sub-i : tie.Need-sub-i Inv-loop μ-loop
 sub-i c = search needs
@@ -45,16 +52,7 @@ element-copy-out-extend-2 : tie.Need-element-copy-out-extend-2 Inv-loop μ-loop
 element-copy-out-extend-2 c = search needs
 
 extend-requires : tie.Need-extend-requires Inv-loop μ-loop
-extend-requires c κs =
-    let l = c .before .before .before .before .before in
-    let s = l .before in
-    let a = s .args in
-    let p = s .pre in
-    let f =
-    interpolate-shaped (a .k) (a .d) (p .0 .0) (p .1 .0) (p .1 .1) (a .t) (p .3) (a .hs .now) (a .ys .now)
-    (sharesFrom (a .d) (a .hs .now) (a .ys .now) (l .loop .i) (suc (a .t) - l .loop .i)) (l .loop .q) (l .loop .nodal)
-    (l .loop .inv .1 (p .0 .0) (p .1 .0) (p .1 .1)) in
-    (p .0, p .1, p .2, omega arith, f .0, f .1)
+extend-requires c κs = search needs
 
 loop-less : tie.Need-loop-less Inv-loop μ-loop
 loop-less c = search needs
@@ -62,25 +60,32 @@ loop-less c = search needs
 loop-again : tie.Need-loop-again Inv-loop μ-loop
 loop-again c =
     let l = c .before .before .before .before .before .before in
-    let s = l .before in
+    let s = l .before .before .before .before in
     let a = s .args in
+    let w = all-map (λ x w. w .0) (sharesOf (a .d) (suc (a .t)) (a .hs .now) (a .ys .now)) (s .pre .5) in
     let e = c .extend .ensures in (
       omega arith,
-      λ h dl dh.
-          rw (e .0, e .1)
-          (interpolate-turn (a .k) (a .d) h dl dh (a .t) (omega arith) (a .hs .now) (a .ys .now)
-          (all-map (λ x w. w .0) (sharesOf (a .d) (suc (a .t)) (a .hs .now) (a .ys .now)) (s .pre .5)) (l .loop .i) (omega arith)
-          (l .loop .inv .0) (l .loop .q) (l .loop .nodal) (l .loop .inv .1 h dl dh)),
+      e .2,
+      e .3,
+      λ h dl dh. interpolate-turn (a .k) (a .d) h dl dh (a .t) (a .hs .now) (a .ys .now) w (l .loop .i) (omega arith) (l .loop .inv .0)
+          (l .loop .q) (l .loop .nodal) (c .extend .last .1 .1 .1 .0) (c .extend .last .1 .1 .1 .1 .0) (l .loop .inv .3 h dl dh) (e .0) (e .1),
     )
+
+reduce-rows-requires : tie.Need-reduce-rows-requires Inv-loop μ-loop
+reduce-rows-requires c κs = search needs
 
 returns : tie.Need-returns Inv-loop μ-loop
 returns c =
-    let l = c .before in
-    let s = l .before in
+    let l = c .before .before .before in
+    let s = l .before .before .before .before in
     let a = s .args in
     let p = s .pre in
-    interpolate-end (a .k) (a .d) (p .0 .0) (p .1 .0) (p .1 .1) (a .t) (p .3) (a .hs .now) (a .ys .now) (p .4) (p .5) (l .loop .i)
-    (omega arith) (l .loop .q) (l .loop .nodal) (l .loop .inv .1 (p .0 .0) (p .1 .0) (p .1 .1))
+    let e = c .reduce-rows .ensures in (
+      interpolate-end (a .k) (a .d) (p .0 .0) (p .1 .0) (p .1 .1) (a .t) (a .hs .now) (a .ys .now) (p .4) (p .5) (l .loop .i) (omega arith)
+          (l .loop .q) (l .loop .nodal) (c .reduce-rows .last .1 .1 .0) (l .loop .inv .3 (p .0 .0) (p .1 .0) (p .1 .1)) (e .0),
+      e .1,
+      l .loop .inv .2,
+    )
 
 pub interpolate-spec : {M : Type 1} → statement M
 interpolate-spec =
@@ -88,7 +93,7 @@ interpolate-spec =
     (tie.spec
     Inv-loop
     μ-loop
-    array-set-from-nodal
+    clear-rows-requires
     add-i
     loop-holds
     sub-i
@@ -100,4 +105,5 @@ interpolate-spec =
     extend-requires
     loop-less
     loop-again
+    reduce-rows-requires
     returns)

@@ -45,15 +45,15 @@ fits c =
           (bundleHeading (bs s)),
     )
 
-add-number : tie.Need-add-number
-add-number c = omega (arith, fits c, c .before .before .good)
+add-word-at : tie.Need-add-word-at
+add-word-at c = omega (arith, fits c, c .before .before .good)
 
-number-requires : tie.Need-number-requires
-number-requires c κs = omega (arith, fits c)
+word-at-requires : tie.Need-word-at-requires
+word-at-requires c κs = omega (arith, fits c)
 
 returns : tie.Need-returns
 unfolding numOf
-returns c = c .number .ensures ∙ ap (λ (at : ℕ). leAt 8 (bs (c .before .before .before)) (bodyAt at)) (place (c .before))
+returns c = c .word-at .ensures ∙ ap (λ (at : ℕ). leAt 8 (bs (c .before .before .before)) (bodyAt at)) (place (c .before))
 
 pub job-number-spec : {M : Type 1} → statement M
-job-number-spec = tie.close (tie.spec job-at-requires add-number number-requires returns)
+job-number-spec = tie.close (tie.spec job-at-requires add-word-at word-at-requires returns)

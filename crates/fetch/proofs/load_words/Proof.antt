@@ -23,8 +23,8 @@ abbrev μ-loop : tie.MeasureT-loop
 loop-holds : tie.Need-loop-holds Inv-loop μ-loop
 loop-holds c = (omega arith, omega arith, refl)
 
-number-requires : tie.Need-number-requires Inv-loop μ-loop
-number-requires c κs = search needs
+word-at-requires : tie.Need-word-at-requires Inv-loop μ-loop
+word-at-requires c κs = search needs
 
 mul-words : tie.Need-mul-words Inv-loop μ-loop
 mul-words c = search needs
@@ -49,9 +49,9 @@ loop-again c =
     let n = words-count 8 bs (a .d) (a .at) in (
       omega (arith, c .before .loop-test .taken),
       omega (arith, l .inv .1),
-      fill-next (replicate 6 0) (wordsFrom 8 bs (a .d) (a .at)) (l .words) (l .i) 0 (c .number .result) (l .inv .2)
+      fill-next (replicate 6 0) (wordsFrom 8 bs (a .d) (a .at)) (l .words) (l .i) 0 (c .word-at .result) (l .inv .2)
           (omega (arith, c .before .loop-test .taken, c .before .before .before .before .pre)) (omega (arith, n, c .before .loop-test .taken))
-          (c .number .ensures ∙ ap (leAt 8 bs) (l .inv .1) ∙ sym (words-at 8 bs (a .d) (a .at) (l .i) (c .before .loop-test .taken))),
+          (c .word-at .ensures ∙ ap (leAt 8 bs) (l .inv .1) ∙ sym (words-at 8 bs (a .d) (a .at) (l .i) (c .before .loop-test .taken))),
     )
 
 returns : tie.Need-returns Inv-loop μ-loop
@@ -66,4 +66,4 @@ returns c =
 pub load-words-spec : {M : Type 1} → statement M
 load-words-spec =
     tie.close
-    (tie.spec Inv-loop μ-loop loop-holds number-requires mul-words array-write-words add-here add-i loop-less loop-again returns)
+    (tie.spec Inv-loop μ-loop loop-holds word-at-requires mul-words array-write-words add-here add-i loop-less loop-again returns)

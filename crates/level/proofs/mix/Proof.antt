@@ -1,20 +1,64 @@
--- `level::mix` meets its contract. Assumes nothing.
-use borrow.Author.Needs.{needs}
-use mathlib.Core.Path.{_∙_}
+-- `level::mix` meets its contract: in each arm the contract of `mix_by` at that d. Assumes nothing.
+use native.Mathlib.Omega.{arith}
+use mathlib.Core.Path.{_≡_}
+use Prim.Native.Nat.{ℕ, _≤_}
+use Rattle.words.proofs.InRange.{six}
+use Rattle.ring.specs.Element.{held, lower}
 use Rattle.level.proofs.mix.Statement.{statement}
 use Rattle.level.proofs.mix.Tie as tie
 
-times-requires : tie.Need-times-requires
-times-requires c κs = search needs
+-- what the call asks, at each d
+asked : (s : tie.Start) (n : ℕ) → s .args .d ≡ n → 2 ≤ n → n ≤ 6
+    → ((2 ≤ n) × (n ≤ 6)) × (s .args .low ≡ held n (lower n))
+asked s n e l h = ((l, h), rw e at (s .pre .1))
 
-times-requires-2 : tie.Need-times-requires-2
-times-requires-2 c κs = search needs
+mix-by-requires : tie.Need-mix-by-requires
+mix-by-requires c κs = asked (c .before) 2 (c .match .keys1) (omega arith) (omega arith)
 
-plus-requires : tie.Need-plus-requires
-plus-requires c κs = search needs
+mix-by-requires-2 : tie.Need-mix-by-requires-2
+mix-by-requires-2 c κs = asked (c .before) 3 (c .match .keys2) (omega arith) (omega arith)
+
+mix-by-requires-3 : tie.Need-mix-by-requires-3
+mix-by-requires-3 c κs = asked (c .before) 4 (c .match .keys3) (omega arith) (omega arith)
+
+mix-by-requires-4 : tie.Need-mix-by-requires-4
+mix-by-requires-4 c κs = asked (c .before) 5 (c .match .keys4) (omega arith) (omega arith)
+
+mix-by-requires-5 : tie.Need-mix-by-requires-5
+mix-by-requires-5 c κs =
+    let r = c .match .rest in
+    let d = c .before .args .d in
+    asked (c .before) 6 (six d (omega arith) (omega arith) (r .0 .0 .0 .1) (r .0 .0 .1) (r .0 .1) (r .1)) (omega arith) (omega arith)
 
 returns : tie.Need-returns
-returns c = c .plus .ensures ∙ rw (c .before .times2 .ensures, c .before .before .times .ensures)
+returns c = rw (c .before .match .keys1) (c .mix-by .ensures)
+
+returns-2 : tie.Need-returns-2
+returns-2 c = rw (c .before .match .keys2) (c .mix-by2 .ensures)
+
+returns-3 : tie.Need-returns-3
+returns-3 c = rw (c .before .match .keys3) (c .mix-by3 .ensures)
+
+returns-4 : tie.Need-returns-4
+returns-4 c = rw (c .before .match .keys4) (c .mix-by4 .ensures)
+
+returns-5 : tie.Need-returns-5
+returns-5 c =
+    let r = c .before .match .rest in
+    let d = c .before .before .args .d in
+    rw (six d (omega arith) (omega arith) (r .0 .0 .0 .1) (r .0 .0 .1) (r .0 .1) (r .1)) (c .mix-by5 .ensures)
 
 pub mix-spec : {M : Type 1} → statement M
-mix-spec = tie.close (tie.spec times-requires times-requires-2 plus-requires returns)
+mix-spec =
+    tie.close
+    (tie.spec
+    mix-by-requires
+    mix-by-requires-2
+    mix-by-requires-3
+    mix-by-requires-4
+    mix-by-requires-5
+    returns
+    returns-2
+    returns-3
+    returns-4
+    returns-5)

@@ -1,9 +1,9 @@
 -- `level::residues` meets its contract: after each turn one row more is written. Assumes nothing.
 use native.Mathlib.Omega.{arith}
 use borrow.Author.Needs.{needs}
-use mathlib.Core.Path.{_≡_}
-use Prim.Native.Nat.{suc, _-_, _≤_}
-use lib.ListN.{length}
+use mathlib.Core.Path.{_≡_, _∙_, ap}
+use Prim.Native.Nat.{suc, _+_, _-_, _≤_}
+use lib.ListN.{length, length-set}
 use Rattle.polynomial.specs.Rows.{coefs}
 use Rattle.polynomial.proofs.Shape.{shaped-good}
 use Rattle.level.proofs.Rests.{written, rest-start, rest-turn, rest-end}
@@ -11,15 +11,26 @@ use Rattle.level.proofs.residues.Statement.{statement}
 use Rattle.level.proofs.residues.Tie as tie
 
 abbrev Inv-loop : tie.InvT-loop
-Inv-loop k d low t m hs ys p r₀ i₀ r i = (i ≤ m) × (r ≡ written k d (coefs d (suc t) p) m hs ys i)
+Inv-loop k d low t m hs ys rest₀ p i₀ rest i =
+    (suc t ≤ i) × (i ≤ m) × (length rest ≡ 63) × (rest ≡ written k d (coefs d (suc t) p) (suc t) m hs ys rest₀ i)
 
 abbrev μ-loop : tie.MeasureT-loop
-μ-loop k d low t m hs ys p r₀ i₀ r i = m - i
+μ-loop k d low t m hs ys rest₀ p i₀ rest i = m - i
+
+add-i : tie.Need-add-i Inv-loop μ-loop
+add-i c = search needs
 
 loop-holds : tie.Need-loop-holds Inv-loop μ-loop
 loop-holds c =
     let a = c .args in
-    (omega arith, rest-start (a .k) (a .d) (coefs (a .d) (suc (a .t)) (a .t4)) (a .m) (a .hs .now) (a .ys .now))
+    let p = coefs (a .d) (suc (a .t)) (a .t4) in
+    let e : suc (a .t) ≡ a .t + 1 = omega arith in (
+      omega arith,
+      omega arith,
+      omega arith,
+      rest-start (a .k) (a .d) p (suc (a .t)) (a .m) (a .hs .now) (a .ys .now) (a .rest .now) (omega arith) (omega arith)
+          ∙ ap (written (a .k) (a .d) p (suc (a .t)) (a .m) (a .hs .now) (a .ys .now) (a .rest .now)) e,
+    )
 
 mul-residue : tie.Need-mul-residue Inv-loop μ-loop
 mul-residue c = search needs
@@ -39,14 +50,14 @@ residue-requires c κs =
     let h : length (s .args .t4) ≡ 64 = omega (arith, s .good) in
     ((omega arith, omega arith), (omega arith, omega arith), s .pre .2, omega arith, shaped-good (s .args .t4) _ h (s .good .1 .1 .1 .0))
 
-mul-r : tie.Need-mul-r Inv-loop μ-loop
-mul-r c = search needs
+mul-t23 : tie.Need-mul-t23 Inv-loop μ-loop
+mul-t23 c = search needs
 
-array-set-from-r : tie.Need-array-set-from-r Inv-loop μ-loop
-array-set-from-r c = search needs
+element-set-from-rest : tie.Need-element-set-from-rest Inv-loop μ-loop
+element-set-from-rest c = search needs
 
-add-i : tie.Need-add-i Inv-loop μ-loop
-add-i c = search needs
+add-i-2 : tie.Need-add-i-2 Inv-loop μ-loop
+add-i-2 c = search needs
 
 loop-less : tie.Need-loop-less Inv-loop μ-loop
 loop-less c = search needs
@@ -54,18 +65,22 @@ loop-less c = search needs
 loop-again : tie.Need-loop-again Inv-loop μ-loop
 loop-again c =
     let l = c .before .before .before .before .before in
-    let a = l .before .args in (
+    let a = l .before .args in
+    let p = coefs (a .d) (suc (a .t)) (a .t4) in (
       omega arith,
-      rest-turn (a .k) (a .d) (coefs (a .d) (suc (a .t)) (a .t4)) (a .m) (a .hs .now) (a .ys .now) (omega arith) (l .loop .i) (omega arith)
-          (l .loop .r) (l .loop .inv .1) _ (c .residue .ensures),
+      omega arith,
+      length-set (l .loop .rest) (l .loop .i) (c .residue .result) ∙ l .loop .inv .2,
+      rest-turn (a .k) (a .d) p (suc (a .t)) (a .m) (a .hs .now) (a .ys .now) (a .rest .now) (omega arith) (omega arith) (l .loop .i)
+          (omega arith) (omega arith) (l .loop .rest) (l .loop .inv .3) _ (c .residue .ensures),
     )
 
 returns : tie.Need-returns Inv-loop μ-loop
 returns c =
     let l = c .before in
     let a = l .before .args in
-    rest-end (a .k) (a .d) (coefs (a .d) (suc (a .t)) (a .t4)) (a .m) (a .hs .now) (a .ys .now) (l .loop .i) (omega arith)
-    (l .loop .r) (l .loop .inv .1)
+    let p = coefs (a .d) (suc (a .t)) (a .t4) in
+    rest-end (a .k) (a .d) p (suc (a .t)) (a .m) (a .hs .now) (a .ys .now) (a .rest .now) (omega arith) (omega arith) (l .loop .i)
+    (omega arith) (l .loop .rest) (l .loop .inv .3)
 
 pub residues-spec : {M : Type 1} → statement M
 residues-spec =
@@ -73,15 +88,16 @@ residues-spec =
     (tie.spec
     Inv-loop
     μ-loop
+    add-i
     loop-holds
     mul-residue
     element-copy-out-residue
     mul-residue-2
     element-copy-out-residue-2
     residue-requires
-    mul-r
-    array-set-from-r
-    add-i
+    mul-t23
+    element-set-from-rest
+    add-i-2
     loop-less
     loop-again
     returns)

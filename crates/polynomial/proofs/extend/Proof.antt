@@ -1,27 +1,29 @@
--- `polynomial::extend` meets its contract: the calls of Newton's step. Assumes nothing.
+-- `polynomial::extend` meets its contract: the calls of Newton's step, in words of 64 bits, are the step at k bits once the words are cut.
+-- Assumes nothing.
 use native.Mathlib.Omega.{arith}
 use mathlib.Core.Path.{_≡_}
 use Prim.Native.Nat.{_+_}
-use lib.ListN.{length}
+use lib.ListN.{length, take}
+use lib.Seq.{length-take-le}
 use Rattle.ring.specs.Element.{point}
 use Rattle.ring.proofs.Points.{length-point}
-use Rattle.polynomial.specs.Polynomial.{value}
-use Rattle.polynomial.specs.Rows.{coefs}
+use Rattle.polynomial.specs.Rows.{subtractRows}
 use Rattle.polynomial.proofs.OverRing.{value-length}
 use Rattle.polynomial.proofs.Shape.{shaped-all}
-use Rattle.polynomial.proofs.Turns.{extend-calls}
+use Rattle.polynomial.proofs.Turns.{excessBy, extend-calls, subtract-shaped, root-shaped}
+use Rattle.polynomial.proofs.Narrow.{extend-narrow, root-narrow}
 use borrow.Author.Needs.{needs}
 use Rattle.polynomial.proofs.extend.Statement.{statement}
 use Rattle.polynomial.proofs.extend.Tie as tie
 
-eval-requires : tie.Need-eval-requires
-eval-requires c κs = search needs
+eval64-requires : tie.Need-eval64-requires
+eval64-requires c κs = search needs
 
-add-eval : tie.Need-add-eval
-add-eval c = search needs
+add-eval64 : tie.Need-add-eval64
+add-eval64 c = search needs
 
-eval-requires-2 : tie.Need-eval-requires-2
-eval-requires-2 c κs = search needs
+eval64-requires-2 : tie.Need-eval64-requires-2
+eval64-requires-2 c κs = search needs
 
 inverse-of-requires : tie.Need-inverse-of-requires
 inverse-of-requires c κs = search needs
@@ -54,24 +56,32 @@ returns c =
     let n = s .args .len in
     let q = s .args .q .now in
     let l = s .args .nodal .now in
-    let x = point (s .args .d) (s .args .x) in
-    let lv : length (value k d (coefs d n q) x) ≡ d =
-    value-length k d (omega arith) (omega arith) n q x (shaped-all q (s .pre .4)) (length-point d (s .args .x)) in
-    let lw : length (value k d (coefs d (n + 1) l) x) ≡ d =
-    value-length k d (omega arith) (omega arith) (n + 1) l x (shaped-all l (s .pre .5)) (length-point d (s .args .x)) in (
-      extend-calls k d (omega arith) (omega arith) n q l _ x (s .args .y) _ _ _ _ _ lv lw (b .before .before .before .before .before .eval .ensures)
-          (b .before .before .before .eval2 .ensures) (b .before .before .inverse-of .ensures) (b .before .difference .ensures) (b .product .ensures)
-          (m .subtract-multiple .ensures),
-      c .root .ensures,
+    let x = point d (s .args .x) in
+    let y = take d (s .args .y) in
+    let hy : length (s .args .y) ≡ 6 = omega (arith, s .good) in
+    let ly : length y ≡ d = length-take-le d (s .args .y) (omega arith) in
+    let lx : length x ≡ d = length-point d (s .args .x) in
+    let aq = shaped-all q (s .pre .4) in
+    let al = shaped-all l (s .pre .5) in
+    let e = excessBy k 64 d n q l x y in
+    let r : m .subtract-multiple .last .1 .1 .0 ≡ subtractRows 64 d (n + 1) q e l =
+    extend-calls 64 d (omega arith) (omega arith) k n q l _ x (s .args .y) _ _ _ _ _
+    (value-length 64 d (omega arith) (omega arith) n q x aq lx) (value-length 64 d (omega arith) (omega arith) (n + 1) l x al lx)
+    (b .before .before .before .before .before .eval64 .ensures) (b .before .before .before .eval642 .ensures)
+    (b .before .before .inverse-of .ensures) (b .before .difference .ensures) (b .product .ensures) (m .subtract-multiple .ensures) in (
+      rw r (extend-narrow {j = k} (omega arith) d (omega arith) (omega arith) n q l x y aq al lx ly),
+      rw (c .root .ensures) (root-narrow {j = k} (omega arith) d (omega arith) (omega arith) (n + 2) x l lx al),
+      rw r (subtract-shaped 64 d (omega arith) (omega arith) (n + 1) q e l (s .pre .4) (s .pre .5)),
+      rw (c .root .ensures) (root-shaped 64 d (omega arith) (omega arith) (n + 2) x l (s .pre .5)),
     )
 
 pub extend-spec : {M : Type 1} → statement M
 extend-spec =
     tie.close
     (tie.spec
-    eval-requires
-    add-eval
-    eval-requires-2
+    eval64-requires
+    add-eval64
+    eval64-requires-2
     inverse-of-requires
     difference-requires
     product-requires

@@ -1,104 +1,65 @@
--- `polynomial::subtract_multiple` meets its contract: a turn of the loop writes one row more. Assumes nothing.
-use borrow.Author.Needs.{needs}
+-- `polynomial::subtract_multiple` meets its contract: in each arm the loop's contract at that d. Assumes nothing.
 use native.Mathlib.Omega.{arith}
-use mathlib.Core.Path.{_≡_, refl, _∙_}
-use mathlib.Core.List.{[]}
-use Prim.Native.Nat.{_-_, _≤_}
-use lib.ListN.{length, take, getD}
-use lib.Seq.{paste}
-use Rattle.polynomial.specs.Rows.{lessMultiple, subtractRows}
-use Rattle.polynomial.proofs.Shape.{shaped-length, shaped-row}
-use Rattle.polynomial.proofs.Change.{change-paste}
-use Rattle.polynomial.proofs.Turns.{subtract-turn}
+use mathlib.Core.Path.{_≡_}
+use Prim.Native.Nat.{ℕ, _≤_}
+use Rattle.words.proofs.InRange.{six}
+use Rattle.ring.specs.Element.{held, lower}
+use Rattle.polynomial.specs.Rows.{Shaped}
 use Rattle.polynomial.proofs.subtract_multiple.Statement.{statement}
 use Rattle.polynomial.proofs.subtract_multiple.Tie as tie
 
-abbrev Inv-loop : tie.InvT-loop
-Inv-loop k d low p₀ e q len i₀ p i = (i ≤ len) × (p ≡ paste p₀ 0 (subtractRows k d len p₀ (take d e) q) i)
+-- what the loop's call asks, at each d
+asked : (s : tie.Start) (n : ℕ) → s .args .d ≡ n → 2 ≤ n → n ≤ 6
+    → ((2 ≤ n) × (n ≤ 6)) × (s .args .low ≡ held n (lower n)) × (s .args .len ≤ 64) × Shaped (s .args .p .now) × Shaped (s .args .q .now)
+asked s n e l h = ((l, h), rw e at (s .pre .1), s .pre .2, s .pre .3, s .pre .4)
 
-abbrev μ-loop : tie.MeasureT-loop
-μ-loop k d low p₀ e q len i₀ p i = len - i
+subtract-by-requires : tie.Need-subtract-by-requires
+subtract-by-requires c κs = asked (c .before .before) 2 (c .before .match .keys1) (omega arith) (omega arith)
 
-loop-holds : tie.Need-loop-holds Inv-loop μ-loop
-loop-holds c = (search needs, refl)
+subtract-by-requires-2 : tie.Need-subtract-by-requires-2
+subtract-by-requires-2 c κs = asked (c .before .before) 3 (c .before .match .keys2) (omega arith) (omega arith)
 
-mul-product : tie.Need-mul-product Inv-loop μ-loop
-mul-product c = search needs
+subtract-by-requires-3 : tie.Need-subtract-by-requires-3
+subtract-by-requires-3 c κs = asked (c .before .before) 4 (c .before .match .keys3) (omega arith) (omega arith)
 
-element-copy-out-product : tie.Need-element-copy-out-product Inv-loop μ-loop
-element-copy-out-product c = search needs
+subtract-by-requires-4 : tie.Need-subtract-by-requires-4
+subtract-by-requires-4 c κs = asked (c .before .before) 5 (c .before .match .keys4) (omega arith) (omega arith)
 
-product-requires : tie.Need-product-requires Inv-loop μ-loop
-product-requires c κs = search needs
+subtract-by-requires-5 : tie.Need-subtract-by-requires-5
+subtract-by-requires-5 c κs =
+    let r = c .before .match .rest in
+    let d = c .before .before .args .d in
+    asked (c .before .before) 6 (six d (omega arith) (omega arith) (r .0 .0 .0 .1) (r .0 .0 .1) (r .0 .1) (r .1)) (omega arith) (omega arith)
 
-mul-difference : tie.Need-mul-difference Inv-loop μ-loop
-mul-difference c = search needs
+returns : tie.Need-returns
+returns c = rw (c .before .before .match .keys1) (c .subtract-by .ensures)
 
-element-copy-out-difference : tie.Need-element-copy-out-difference Inv-loop μ-loop
-element-copy-out-difference c = search needs
+returns-2 : tie.Need-returns-2
+returns-2 c = rw (c .before .before .match .keys2) (c .subtract-by2 .ensures)
 
-difference-requires : tie.Need-difference-requires Inv-loop μ-loop
-difference-requires c κs = search needs
+returns-3 : tie.Need-returns-3
+returns-3 c = rw (c .before .before .match .keys3) (c .subtract-by3 .ensures)
 
-keep-requires : tie.Need-keep-requires Inv-loop μ-loop
-keep-requires c κs = search needs
+returns-4 : tie.Need-returns-4
+returns-4 c = rw (c .before .before .match .keys4) (c .subtract-by4 .ensures)
 
-mul-t19 : tie.Need-mul-t19 Inv-loop μ-loop
-mul-t19 c = search needs
-
-element-set-from-p : tie.Need-element-set-from-p Inv-loop μ-loop
-element-set-from-p c = search needs
-
-add-i : tie.Need-add-i Inv-loop μ-loop
-add-i c = search needs
-
-loop-less : tie.Need-loop-less Inv-loop μ-loop
-loop-less c = search needs
-
-loop-again : tie.Need-loop-again Inv-loop μ-loop
-loop-again c =
-    let l = c .before .before .before .before .before .before in
-    let s = l .before in
-    let k = s .args .k in
-    let d = s .args .d in
-    let p = s .args .p .now in
-    let q = s .args .q .now in
-    let i = l .loop .i in
-    let hp : length p ≡ 64 = shaped-length p (s .pre .4) in
-    let hq : length q ≡ 64 = shaped-length q (s .pre .5) in
-    let rp : length (getD p i []) ≡ 6 = shaped-row p i (s .pre .4) (omega arith) in
-    let rq : length (getD q i []) ≡ 6 = shaped-row q i (s .pre .5) (omega arith) in (
-      omega arith,
-      rw (c .keep .ensures, c .before .difference .ensures, c .before .before .before .product .ensures)
-          (subtract-turn k d (omega arith) (omega arith) (s .args .len) p (take d (s .args .e)) q (l .loop .p) i
-          (omega arith) (omega arith) (omega arith) rp rq (l .loop .inv .1)),
-    )
-
-returns : tie.Need-returns Inv-loop μ-loop
-returns c =
-    let l = c .before in
-    let s = l .before in
-    let d = s .args .d in
-    let e : l .loop .i ≡ s .args .len = omega arith in
-    rw e at (l .loop .inv .1) ∙ change-paste (lessMultiple (s .args .k) d (take d (s .args .e))) (s .args .len) (s .args .q .now) (s .args .p .now)
+returns-5 : tie.Need-returns-5
+returns-5 c =
+    let r = c .before .before .match .rest in
+    let d = c .before .before .before .args .d in
+    rw (six d (omega arith) (omega arith) (r .0 .0 .0 .1) (r .0 .0 .1) (r .0 .1) (r .1)) (c .subtract-by5 .ensures)
 
 pub subtract-multiple-spec : {M : Type 1} → statement M
 subtract-multiple-spec =
     tie.close
     (tie.spec
-    Inv-loop
-    μ-loop
-    loop-holds
-    mul-product
-    element-copy-out-product
-    product-requires
-    mul-difference
-    element-copy-out-difference
-    difference-requires
-    keep-requires
-    mul-t19
-    element-set-from-p
-    add-i
-    loop-less
-    loop-again
-    returns)
+    subtract-by-requires
+    subtract-by-requires-2
+    subtract-by-requires-3
+    subtract-by-requires-4
+    subtract-by-requires-5
+    returns
+    returns-2
+    returns-3
+    returns-4
+    returns-5)

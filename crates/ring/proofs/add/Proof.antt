@@ -37,16 +37,16 @@ returns c =
     (e, sym (kept-some (F s) (s .args .out .now) (sum (s .args .p .k) (s .args .a .now) (s .args .b .now)) (λ z. c .if1 .taken (e ∙ z))))
 
 load-requires : tie.Need-load-requires
-load-requires c κs = let k = known c in (k .range .d-high, omega arith)
+load-requires c κs = let k = known c in ((k .range .d-low, k .range .d-high), omega arith)
 
 load-requires-2 : tie.Need-load-requires-2
-load-requires-2 c κs = let k = known (c .before) in (k .range .d-high, omega arith)
+load-requires-2 c κs = let k = known (c .before) in ((k .range .d-low, k .range .d-high), omega arith)
 
 sum-requires : tie.Need-sum-requires
 sum-requires c κs = let k = known (c .before .before .before) in (k .range .k-low, k .range .k-high)
 
 store-requires : tie.Need-store-requires
-store-requires c κs = let k = known (c .before .before .before .before) in (k .range .d-high, omega arith)
+store-requires c κs = let k = known (c .before .before .before .before) in ((k .range .d-low, k .range .d-high), omega arith)
 
 same-length : tie.Need-same-length
 same-length c = search needs

@@ -1,89 +1,58 @@
--- `ring::inverse_of` meets its contract: after the chain of squares, as many steps as reach k bits. Assumes nothing.
+-- `ring::inverse_of` meets its contract: the chain of squares modulo two, then as many steps as reach k bits, cut to k. Assumes nothing.
 use borrow.Author.Needs.{needs}
 use native.Mathlib.Omega.{arith}
-use mathlib.Core.Path.{_≡_, refl, ap, _∙_}
-use mathlib.Core.List.{List}
-use Prim.Native.Nat.{ℕ, suc, _+_, _-_, _^_, _≤_}
-use native.Mathlib.Nat.{pow-suc}
+use mathlib.Core.Path.{_≡_, sym, ap, _∙_}
+use Prim.Native.Nat.{_-_}
 use lib.ListN.{length, take}
 use lib.Seq.{length-take-le}
-use Rattle.ring.specs.Element.{Element, held}
+use Rattle.ring.specs.Element.{reduce, held}
 use Rattle.ring.specs.Inversion.{fermat, newtons}
 use Rattle.ring.proofs.Field.{length-fermat}
 use Rattle.ring.proofs.Inverse.{length-newtons, inverse-computed}
-use Rattle.ring.proofs.Held.{held-take}
+use Rattle.ring.proofs.Held.{held-take, held-same}
+use Rattle.ring.proofs.Narrow.{reduce-held}
 use Rattle.ring.proofs.inverse_of.Statement.{statement}
 use Rattle.ring.proofs.inverse_of.Tie as tie
 
--- y is an inverse modulo 2^w: w has been doubled n times from one
-abbrev Reached : ℕ → ℕ → Element → List ℕ → ℕ → Type 0
-Reached k d a y w = (n : ℕ) × ((w ≡ 2 ^ n) × (y ≡ held d (newtons k d a (fermat d a (d - 1)) n)))
+fermat64-requires : tie.Need-fermat64-requires
+fermat64-requires c κs = search needs
 
-abbrev Inv-loop : tie.InvT-loop
-Inv-loop k d low a y₀ w₀ y w = (1 ≤ w) × Reached k d (take d a) y w
+reduce-requires : tie.Need-reduce-requires
+reduce-requires c κs = search needs
 
-abbrev μ-loop : tie.MeasureT-loop
-μ-loop k d low a y₀ w₀ y w = k - w
-
-fermat-requires : tie.Need-fermat-requires Inv-loop μ-loop
-fermat-requires c κs = search needs
-
-loop-holds : tie.Need-loop-holds Inv-loop μ-loop
-unfolding newtons
-loop-holds c = (search needs, (0, (refl, c .fermat .ensures)))
-
-newton-requires : tie.Need-newton-requires Inv-loop μ-loop
-newton-requires c κs = search needs
-
-add-w : tie.Need-add-w Inv-loop μ-loop
-add-w c = search needs
-
-loop-less : tie.Need-loop-less Inv-loop μ-loop
-loop-less c = search needs
-
-loop-again : tie.Need-loop-again Inv-loop μ-loop
-unfolding newtons
-loop-again c =
-    let l = c .before .before in
-    let s = l .before .before in
-    let k = s .args .k in
+newton64-requires : tie.Need-newton64-requires
+newton64-requires c κs =
+    let s = c .before .before in
     let d = s .args .d in
-    let n = l .loop .inv .1 .0 in
+    let h₆ : length (s .args .a) ≡ 6 = omega (arith, s .good) in
     let a = take d (s .args .a) in
     let y = fermat d a (d - 1) in
-    let h₆ : length (s .args .a) ≡ 6 = omega (arith, s .good) in
-    let ha : length a ≡ d = length-take-le d (s .args .a) (omega arith) in
-    let hy : length y ≡ d = length-fermat d (omega arith) (omega arith) a ha (d - 1) in
-    let r : l .loop .w ≡ 2 ^ n = l .loop .inv .1 .1 .0 in
-    let t : l .loop .w + l .loop .w ≡ 2 ^ suc n = omega (arith, pow-suc 2 n, r) in
-    let e : take d (l .loop .y) ≡ newtons k d a y n =
-    ap (take d) (l .loop .inv .1 .1 .1) ∙ held-take d (newtons k d a y n) (length-newtons d (omega arith) (omega arith) k a y ha hy n) in
-    (omega arith, (suc n, (t, c .newton .ensures ∙ rw e)))
+    let hy : length y ≡ d = length-fermat d (omega arith) (omega arith) a (length-take-le d (s .args .a) (omega arith)) (d - 1) in
+    let e : c .reduce .result ≡ held d y = c .reduce .ensures ∙ c .before .fermat64 .ensures in
+    (omega arith, (omega arith, omega arith), rw e (sym (held-same d (held d y) y (held-take d y hy) hy)))
 
-returns : tie.Need-returns Inv-loop μ-loop
+reduce-requires-2 : tie.Need-reduce-requires-2
+reduce-requires-2 c κs = search needs
+
+returns : tie.Need-returns
 returns c =
-    let l = c .before in
-    let s = l .before .before in
+    let m = c .before in
+    let s = m .before .before .before in
     let k = s .args .k in
     let d = s .args .d in
-    let n = l .loop .inv .1 .0 in
-    let a = take d (s .args .a) in
+    let n = m .newton64 .ensures .0 in
     let h₆ : length (s .args .a) ≡ 6 = omega (arith, s .good) in
+    let a = take d (s .args .a) in
     let ha : length a ≡ d = length-take-le d (s .args .a) (omega arith) in
-    let r : l .loop .w ≡ 2 ^ n = l .loop .inv .1 .1 .0 in
-    let t : k ≤ 2 ^ n = omega (arith, r) in
-    l .loop .inv .1 .1 .1 ∙ ap (held d) (inverse-computed d (omega arith) (omega arith) k (omega arith) a ha n t)
+    let y = fermat d a (d - 1) in
+    let hy : length y ≡ d = length-fermat d (omega arith) (omega arith) a ha (d - 1) in
+    let ey : take d (m .before .reduce .result) ≡ y =
+    ap (take d) (m .before .reduce .ensures ∙ m .before .before .fermat64 .ensures) ∙ held-take d y hy in
+    let x = newtons 64 d a y n in
+    let hx : length x ≡ d = length-newtons d (omega arith) (omega arith) 64 a y ha hy n in
+    let ex : m .newton64 .result ≡ held d x = m .newton64 .ensures .1 .1 ∙ rw ey in
+    c .reduce2 .ensures ∙ ap (reduce k) ex ∙ reduce-held k d x hx (omega arith)
+    ∙ ap (held d) (inverse-computed d (omega arith) (omega arith) k 64 (omega arith) (omega arith) a ha n (m .newton64 .ensures .1 .0))
 
 pub inverse-of-spec : {M : Type 1} → statement M
-inverse-of-spec =
-    tie.close
-    (tie.spec
-    Inv-loop
-    μ-loop
-    fermat-requires
-    loop-holds
-    newton-requires
-    add-w
-    loop-less
-    loop-again
-    returns)
+inverse-of-spec = tie.close (tie.spec fermat64-requires reduce-requires newton64-requires reduce-requires-2 returns)

@@ -40,7 +40,7 @@ returns c =
     (e, sym (kept-some (F s) (s .args .out .now) (inverse (s .args .p .k) (s .args .p .d) (s .args .a .now)) (λ z. c .if1 .taken (e ∙ z))))
 
 load-requires : tie.Need-load-requires
-load-requires c κs = let k = known c in (k .range .d-high, omega arith)
+load-requires c κs = let k = known c in ((k .range .d-low, k .range .d-high), omega arith)
 
 lower-of-requires : tie.Need-lower-of-requires
 lower-of-requires c κs = let k = known (c .before .before) in (k .range .d-low, k .range .d-high)
@@ -51,7 +51,7 @@ inverse-of-requires c κs =
     ((k .range .k-low, k .range .k-high), (k .range .d-low, k .range .d-high), c .lower-of .ensures)
 
 store-requires : tie.Need-store-requires
-store-requires c κs = let k = known (c .before .before .before .before) in (k .range .d-high, omega arith)
+store-requires c κs = let k = known (c .before .before .before .before) in ((k .range .d-low, k .range .d-high), omega arith)
 
 same-length : tie.Need-same-length
 same-length c = search needs

@@ -1,74 +1,54 @@
--- `ring::load` meets its contract: the words copied so far. Assumes nothing.
-use borrow.Author.Needs.{needs}
+-- `ring::load` meets its contract: in each arm the loop's contract at that d. Assumes nothing.
 use native.Mathlib.Omega.{arith}
-use mathlib.Core.Path.{_≡_, refl, sym, _∙_}
-use Prim.Native.Nat.{_-_, _≤_}
-use native.Mathlib.Nat.{zero-add}
-use lib.ListN.{length, drop, length-drop}
-use lib.Seq.{paste, getD-drop}
-use Rattle.words.proofs.Fill.{fill-next}
+use Rattle.words.proofs.InRange.{six}
+use borrow.Author.Needs.{needs}
 use Rattle.ring.proofs.load.Statement.{statement}
 use Rattle.ring.proofs.load.Tie as tie
 
-abbrev Inv-loop : tie.InvT-loop
-Inv-loop d s at r₀ j₀ r j = (j ≤ d) × (r ≡ paste r₀ 0 (drop at s) j)
+load-by-requires : tie.Need-load-by-requires
+load-by-requires c κs = search needs
 
-abbrev μ-loop : tie.MeasureT-loop
-μ-loop d s at r₀ j₀ r j = d - j
+load-by-requires-2 : tie.Need-load-by-requires-2
+load-by-requires-2 c κs = search needs
 
-loop-holds : tie.Need-loop-holds Inv-loop μ-loop
-loop-holds c = (search needs, refl)
+load-by-requires-3 : tie.Need-load-by-requires-3
+load-by-requires-3 c κs = search needs
 
-add-r : tie.Need-add-r Inv-loop μ-loop
-add-r c = search needs
+load-by-requires-4 : tie.Need-load-by-requires-4
+load-by-requires-4 c κs = search needs
 
-mul-r : tie.Need-mul-r Inv-loop μ-loop
-mul-r c = search needs
+load-by-requires-5 : tie.Need-load-by-requires-5
+load-by-requires-5 c κs = search needs
 
-shared-slice-read-r : tie.Need-shared-slice-read-r Inv-loop μ-loop
-shared-slice-read-r c = search needs
+returns : tie.Need-returns
+returns c = rw (c .before .match .keys1) (c .load-by .ensures)
 
-mul-r-2 : tie.Need-mul-r-2 Inv-loop μ-loop
-mul-r-2 c = search needs
+returns-2 : tie.Need-returns-2
+returns-2 c = rw (c .before .match .keys2) (c .load-by2 .ensures)
 
-array-write-r : tie.Need-array-write-r Inv-loop μ-loop
-array-write-r c = search needs
+returns-3 : tie.Need-returns-3
+returns-3 c = rw (c .before .match .keys3) (c .load-by3 .ensures)
 
-add-j : tie.Need-add-j Inv-loop μ-loop
-add-j c = search needs
+returns-4 : tie.Need-returns-4
+returns-4 c = rw (c .before .match .keys4) (c .load-by4 .ensures)
 
-loop-less : tie.Need-loop-less Inv-loop μ-loop
-loop-less c = search needs
-
-loop-again : tie.Need-loop-again Inv-loop μ-loop
-loop-again c =
-    let l = c .before .before in
-    let s = l .before in
-    let h : length (drop (s .args .at) (s .args .s .now)) ≡ length (s .args .s .now) - s .args .at = length-drop (s .args .at) (s .args .s .now) in (
-      omega arith,
-      fill-next _ (drop (s .args .at) (s .args .s .now)) (l .loop .r) (l .loop .j) 0 _ (l .loop .inv .1) (omega arith) (omega arith)
-          (sym (getD-drop (s .args .at) (s .args .s .now) (l .loop .j) 0)),
-    )
-
-returns : tie.Need-returns Inv-loop μ-loop
-returns c =
-    let l = c .before in
-    let e : l .loop .j ≡ l .before .args .d = omega arith in
-    l .loop .inv .1 ∙ rw (e, zero-add)
+returns-5 : tie.Need-returns-5
+returns-5 c =
+    let r = c .before .match .rest in
+    let d = c .before .before .before .args .d in
+    rw (six d (omega arith) (omega arith) (r .0 .0 .0 .1) (r .0 .0 .1) (r .0 .1) (r .1)) (c .load-by5 .ensures)
 
 pub load-spec : {M : Type 1} → statement M
 load-spec =
     tie.close
     (tie.spec
-    Inv-loop
-    μ-loop
-    loop-holds
-    add-r
-    mul-r
-    shared-slice-read-r
-    mul-r-2
-    array-write-r
-    add-j
-    loop-less
-    loop-again
-    returns)
+    load-by-requires
+    load-by-requires-2
+    load-by-requires-3
+    load-by-requires-4
+    load-by-requires-5
+    returns
+    returns-2
+    returns-3
+    returns-4
+    returns-5)

@@ -38,10 +38,10 @@ returns c =
     (e, sym (kept-some (F s) (s .args .out .now) w (λ z. c .if1 .taken (e ∙ z))))
 
 load-requires : tie.Need-load-requires
-load-requires c κs = let k = known c in (k .range .d-high, omega arith)
+load-requires c κs = let k = known c in ((k .range .d-low, k .range .d-high), omega arith)
 
 load-requires-2 : tie.Need-load-requires-2
-load-requires-2 c κs = let k = known (c .before) in (k .range .d-high, omega arith)
+load-requires-2 c κs = let k = known (c .before) in ((k .range .d-low, k .range .d-high), omega arith)
 
 lower-of-requires : tie.Need-lower-of-requires
 lower-of-requires c κs = let k = known (c .before .before .before) in (k .range .d-low, k .range .d-high)
@@ -52,7 +52,7 @@ product-requires c κs =
     ((k .range .k-low, k .range .k-high), (k .range .d-low, k .range .d-high), c .lower-of .ensures)
 
 store-requires : tie.Need-store-requires
-store-requires c κs = let k = known (c .before .before .before .before .before) in (k .range .d-high, omega arith)
+store-requires c κs = let k = known (c .before .before .before .before .before) in ((k .range .d-low, k .range .d-high), omega arith)
 
 same-length : tie.Need-same-length
 same-length c = search needs

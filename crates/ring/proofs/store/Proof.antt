@@ -1,86 +1,75 @@
--- `ring::store` meets its contract: the words copied so far. Assumes nothing.
-use borrow.Author.Needs.{needs}
+-- `ring::store` meets its contract: in each arm the loop's contract at that d. Assumes nothing.
 use native.Mathlib.Omega.{arith}
-use mathlib.Core.Path.{_≡_, refl, sym}
-use Prim.Native.Nat.{_-_, _≤_}
-use lib.ListN.{length, take, length-set}
-use lib.Seq.{paste, paste-zero, length-take-le, getD-take}
-use Rattle.words.proofs.Fill.{fill-more, fill-within}
+use Rattle.words.proofs.InRange.{six}
+use borrow.Author.Needs.{needs}
 use Rattle.ring.proofs.store.Statement.{statement}
 use Rattle.ring.proofs.store.Tie as tie
 
-abbrev Inv-loop : tie.InvT-loop
-Inv-loop d out₀ at e j₀ out j = (j ≤ d) × (out ≡ paste out₀ at (take d e) j) × (length out ≡ length out₀)
+store-by-requires : tie.Need-store-by-requires
+store-by-requires c κs = search needs
 
-abbrev μ-loop : tie.MeasureT-loop
-μ-loop d out₀ at e j₀ out j = d - j
+store-by-requires-2 : tie.Need-store-by-requires-2
+store-by-requires-2 c κs = search needs
 
-loop-holds : tie.Need-loop-holds Inv-loop μ-loop
-loop-holds c = (search needs, paste-zero (c .args .out .now) (c .args .at) (take (c .args .d) (c .args .t4)), refl)
+store-by-requires-3 : tie.Need-store-by-requires-3
+store-by-requires-3 c κs = search needs
 
-mul-out : tie.Need-mul-out Inv-loop μ-loop
-mul-out c = search needs
+store-by-requires-4 : tie.Need-store-by-requires-4
+store-by-requires-4 c κs = search needs
 
-array-read-out : tie.Need-array-read-out Inv-loop μ-loop
-array-read-out c = search needs
+store-by-requires-5 : tie.Need-store-by-requires-5
+store-by-requires-5 c κs = search needs
 
-add-out : tie.Need-add-out Inv-loop μ-loop
-add-out c = search needs
-
-mul-out-2 : tie.Need-mul-out-2 Inv-loop μ-loop
-mul-out-2 c = search needs
-
-slice-write-out : tie.Need-slice-write-out Inv-loop μ-loop
-slice-write-out c = search needs
-
-add-j : tie.Need-add-j Inv-loop μ-loop
-add-j c = search needs
-
-loop-less : tie.Need-loop-less Inv-loop μ-loop
-loop-less c = search needs
-
-loop-again : tie.Need-loop-again Inv-loop μ-loop
-loop-again c =
-    let l = c .before in
-    let s = l .before in
-    let d = s .args .d in
-    let e = s .args .t4 in
-    let j = l .loop .j in
-    let he : length e ≡ 6 = omega (arith, s .good) in
-    let ht : length (take d e) ≡ d = length-take-le d e (omega arith) in (
-      omega arith,
-      fill-more (s .args .out .now) (take d e) (l .loop .out) (s .args .at) j 0 _ (l .loop .inv .1) (omega arith) (omega arith)
-          (sym (getD-take d e j 0 (omega arith))),
-      simp length-set (l .loop .inv .2),
-    )
-
-same-length : tie.Need-same-length Inv-loop μ-loop
+same-length : tie.Need-same-length
 same-length c = search needs
 
-returns : tie.Need-returns Inv-loop μ-loop
-returns c =
-    let l = c .before in
-    let s = l .before in
-    let d = s .args .d in
-    let he : length (s .args .t4) ≡ 6 = omega (arith, s .good) in
-    let e : l .loop .j ≡ d = omega arith in
-    fill-within (s .args .out .now) (take d (s .args .t4)) (l .loop .out) (s .args .at) d (rw e at (l .loop .inv .1))
-    (length-take-le d (s .args .t4) (omega arith))
+returns : tie.Need-returns
+returns c = rw (c .before .before .before .before .match .keys1) (c .before .before .store-by .ensures)
+
+same-length-2 : tie.Need-same-length-2
+same-length-2 c = search needs
+
+returns-2 : tie.Need-returns-2
+returns-2 c = rw (c .before .before .before .before .match .keys2) (c .before .before .store-by2 .ensures)
+
+same-length-3 : tie.Need-same-length-3
+same-length-3 c = search needs
+
+returns-3 : tie.Need-returns-3
+returns-3 c = rw (c .before .before .before .before .match .keys3) (c .before .before .store-by3 .ensures)
+
+same-length-4 : tie.Need-same-length-4
+same-length-4 c = search needs
+
+returns-4 : tie.Need-returns-4
+returns-4 c = rw (c .before .before .before .before .match .keys4) (c .before .before .store-by4 .ensures)
+
+same-length-5 : tie.Need-same-length-5
+same-length-5 c = search needs
+
+returns-5 : tie.Need-returns-5
+returns-5 c =
+    let m = c .before .before .before .before in
+    let r = m .match .rest in
+    let d = m .before .before .args .d in
+    rw (six d (omega arith) (omega arith) (r .0 .0 .0 .1) (r .0 .0 .1) (r .0 .1) (r .1)) (c .before .before .store-by5 .ensures)
 
 pub store-spec : {M : Type 1} → statement M
 store-spec =
     tie.close
     (tie.spec
-    Inv-loop
-    μ-loop
-    loop-holds
-    mul-out
-    array-read-out
-    add-out
-    mul-out-2
-    slice-write-out
-    add-j
-    loop-less
-    loop-again
+    store-by-requires
+    store-by-requires-2
+    store-by-requires-3
+    store-by-requires-4
+    store-by-requires-5
     same-length
-    returns)
+    returns
+    same-length-2
+    returns-2
+    same-length-3
+    returns-3
+    same-length-4
+    returns-4
+    same-length-5
+    returns-5)

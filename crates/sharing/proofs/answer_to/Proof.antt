@@ -1,7 +1,8 @@
+-- `sharing::answer_to` meets its contract: too few shares, or what the decoder gives. Assumes nothing.
 use native.Mathlib.Omega.{arith}
-use mathlib.Core.Path.{_≡_, sym, _∙_}
+use mathlib.Core.Path.{_≡_}
 use mathlib.Core.List.{List}
-use Prim.Native.Nat.{ℕ, _+_, _*_, _≤_, _<_}
+use Prim.Native.Nat.{_+_, _*_, _≤_}
 use lib.ListN.{length}
 use Rattle.words.proofs.InRange.{InRange, ok-range}
 use Rattle.codewords.specs.Codeword.{Share}
@@ -12,16 +13,13 @@ use Rattle.sharing.proofs.Answers.{declined-parts, nothing, found-parts
 use borrow.Author.Needs.{needs}
 use Rattle.sharing.proofs.answer_to.Statement.{statement}
 use Rattle.sharing.proofs.answer_to.Tie as tie
-use Rattle.sharing.proofs.answer_to.Reads as reads
-use Rattle.sharing.proofs.answer_to.Lts as lts
-use Rattle.decoder.proofs.decode.Reads as decode-reads
 
 -- the shares, m of them
 abbrev ss : tie.Start → List Share
-ss s = sharesOf (s .args .p .d) (s .args .m) (s .args .holders) (s .args .shares)
+ss s = sharesOf (s .args .p .d) (s .args .m) (s .args .holders .now) (s .args .shares .now)
 
 count : (s : tie.Start) → length (ss s) ≡ s .args .m
-count s = length-from (s .args .p .d) (s .args .holders) (s .args .shares) 0 (s .args .m)
+count s = length-from (s .args .p .d) (s .args .holders .now) (s .args .shares .now) 0 (s .args .m)
 
 range : (s : tie.Start) → InRange (s .args .p)
 range s = ok-range (s .args .p) (s .pre .0)
@@ -30,60 +28,50 @@ range s = ok-range (s .args .p) (s .pre .0)
 enough : (c : tie.Else2) → let s = c .before .before .before .before in s .args .p .t + 1 + 2 * s .args .e ≤ length (ss s)
 enough c = omega (arith, count (c .before .before .before .before), c .if2 .left, c .before .before .if1 .left)
 
--- src/lib.rt:202:9
 returns : tie.Need-returns
 returns c =
     let s = c .before .before in
     declined-parts (s .args .p .d) (range s .d-high) 5 _ (answer-few (s .args .p) (s .args .e) (ss s) (omega (arith, count s, c .if1 .taken)))
 
--- src/lib.rt:208:11
 sub-if2 : tie.Need-sub-if2
 sub-if2 c = search needs
 
--- src/lib.rt:208:11
 sub-if2-2 : tie.Need-sub-if2-2
 sub-if2-2 c = search needs
 
--- src/lib.rt:209:9
 returns-2 : tie.Need-returns-2
 returns-2 c =
     let s = c .before .before .before .before in
     declined-parts (s .args .p .d) (range s .d-high) 5 _
     (answer-few (s .args .p) (s .args .e) (ss s) (omega (arith, count s, c .before .before .if1 .left, c .if2 .taken)))
 
--- src/lib.rt:216:9
 decode-requires : tie.Need-decode-requires
-decode-requires c κs = search needs
+decode-requires c κs =
+    let f = c .before .before .before in
+    let s = f .before .before .before .before in
+    (s .pre .0, s .pre .1, omega (arith, enough f, count s), s .pre .2, s .pre .3, s .pre .4, s .pre .5)
 
--- src/lib.rt:217:25
 enum-known-level : tie.Need-enum-known-level
 enum-known-level c = search needs
 
--- src/lib.rt:221:20
 enum-told : tie.Need-enum-told
 enum-told c = search needs
 
--- src/lib.rt:218:9
 returns-3 : tie.Need-returns-3
 returns-3 c =
     let k = c .before .before .decode in
-    let f = c .before .before .before .before in
+    let f = c .before .before .before .before .before .before in
     let s = f .before .before .before .before in
     declined-parts (s .args .p .d) (range s .d-high) 6 _
     (nothing (s .args .p) (s .args .e) (ss s) (enough f) (k .result) (k .ensures .0) (c .enum-told .given .1))
 
--- src/lib.rt:227:16
-array-copy-out-t16 : tie.Need-array-copy-out-t16
-array-copy-out-t16 c = search needs
-
--- src/lib.rt:190:1
 returns-4 : tie.Need-returns-4
 returns-4 c =
-    let k = c .before .before .before .before .decode in
-    let f = c .before .before .before .before .before .before in
+    let k = c .before .before .before .decode in
+    let f = c .before .before .before .before .before .before .before in
     let s = f .before .before .before .before in
-    found-parts (s .args .p) (s .args .e) (ss s) (enough f) (k .result) (c .before .before .level .given .0 .0) _ _ (k .ensures .0)
-    (c .before .before .level .given .1) (k .ensures .1)
+    found-parts (s .args .p) (s .args .e) (ss s) (enough f) (k .result) (c .before .level .given .0 .0) _ _ (k .ensures .0)
+    (c .before .level .given .1) (k .ensures .1)
 
 pub answer-to-spec : {M : Type 1} → statement M
 answer-to-spec =
@@ -97,5 +85,4 @@ answer-to-spec =
     enum-known-level
     enum-told
     returns-3
-    array-copy-out-t16
     returns-4)

@@ -34,7 +34,7 @@ mul-load c = omega (arith, mul-le-mul-right (c .before .before .before .args .d)
 
 -- src/lib.rt:161:16
 load-requires : tie.Need-load-requires Inv-loop μ-loop
-load-requires c κs = (omega arith, omega (arith, mul-le-mul-right (c .before .before .before .args .d) (c .loop-test .taken)))
+load-requires c κs = ((omega arith, omega arith), omega (arith, mul-le-mul-right (c .before .before .before .args .d) (c .loop-test .taken)))
 
 -- src/lib.rt:161:9
 mul-r : tie.Need-mul-r Inv-loop μ-loop

@@ -1,29 +1,21 @@
+-- `sharing::open_shares` meets its contract: the refusals of the lent shares, and then the answer to them. Assumes nothing.
 use native.Mathlib.Omega.{arith}
 use mathlib.Core.Path.{_≡_, refl, sym, ap, _∙_}
-use mathlib.Core.List.{List}
-use Prim.Native.Nat.{ℕ, _+_, _*_, _≤_}
+use Prim.Native.Nat.{ℕ, _≤_}
 use lib.ListN.{length}
 use Rattle.words.proofs.InRange.{range-ok}
 use Rattle.ring.specs.Element.{zeroE, held}
 use Rattle.ring.proofs.Calls.{stored}
-use Rattle.codewords.specs.Codeword.{Share}
 use Rattle.level.specs.Shares.{sharesOf}
 use Rattle.sharing.specs.Opening.{Opening, declines, faultOf, wrongOf, wordsOf, answerTo, lent, lentFault, opening}
 use Rattle.sharing.proofs.Faults.{few-holders}
 use Rattle.sharing.proofs.Lent.{LentClear, lent-clear, clear-width, lent-above, lent-rising, rising-length}
 use Rattle.sharing.proofs.Loaded.{loaded}
 use Rattle.sharing.proofs.Opens.{opening-clear, opening-stopped}
-use Rattle.sharing.proofs.Answers.{Given, given, fault-keeps}
+use Rattle.sharing.proofs.Answers.{given, fault-keeps}
 use borrow.Author.Needs.{needs}
 use Rattle.sharing.proofs.open_shares.Statement.{statement}
 use Rattle.sharing.proofs.open_shares.Tie as tie
-use Rattle.sharing.proofs.open_shares.Reads as reads
-use Rattle.sharing.proofs.open_shares.Lts as lts
-use Rattle.ring.proofs.store.Reads as store-reads
-use Rattle.sharing.proofs.answer_to.Reads as answer-to-reads
-use Rattle.sharing.proofs.lent_fault.Reads as lent-fault-reads
-use Rattle.sharing.proofs.load_holders.Reads as load-holders-reads
-use Rattle.sharing.proofs.load_shares.Reads as load-shares-reads
 
 -- the fault of the lent shares, what the call is to give, and what is known where there is no such fault
 abbrev F : tie.Start → ℕ
@@ -58,74 +50,70 @@ same c =
     (c .load-shares .ensures)
 
 answered : (c : tie.After-load-shares) → let s = S (c .before .before) in
-    O s ≡ answerTo (s .args .p) (s .args .e) (sharesOf (s .args .p .d) (length (s .args .holders .now)) (c .before .load-holders .result) (c .load-shares .result))
+    O s ≡ answerTo (s .args .p) (s .args .e)
+    (sharesOf (s .args .p .d) (length (s .args .holders .now)) (c .before .load-holders .result) (c .load-shares .result))
 answered c =
     let s = S (c .before .before) in
     opening-clear (s .args .p) (s .args .holders .now) (s .args .shares .now) (s .args .e) (length (s .args .out .now)) (no-fault (c .before .before))
     ∙ ap (answerTo (s .args .p) (s .args .e)) (sym (same c))
 
--- src/lib.rt:246:9
 lent-fault-requires : tie.Need-lent-fault-requires
 lent-fault-requires c κs = search needs
 
--- src/lib.rt:248:9
 returns : tie.Need-returns
 returns c =
     let s = c .before .before .before .before .before in
     let e = c .before .lent-fault .ensures in
     let z : O s ≡ declines (F s) =
-    opening-stopped (s .args .p) (s .args .holders .now) (s .args .shares .now) (s .args .e) (length (s .args .out .now)) (λ z. c .if1 .taken (e ∙ z)) in
+    opening-stopped (s .args .p) (s .args .holders .now) (s .args .shares .now) (s .args .e) (length (s .args .out .now))
+    (λ z. c .if1 .taken (e ∙ z)) in
     rw z (e, refl, refl)
 
--- src/lib.rt:254:9
 load-holders-requires : tie.Need-load-holders-requires
 load-holders-requires c κs = few c
 
--- src/lib.rt:255:9
 load-shares-requires : tie.Need-load-shares-requires
 load-shares-requires c κs =
     let k = known (c .before) in
-    (k .range .d-high, few (c .before), k .words-length)
+    ((k .range .d-low, k .range .d-high), few (c .before), k .words-length)
 
--- src/lib.rt:256:9
 answer-to-requires : tie.Need-answer-to-requires
 answer-to-requires c κs =
-    let s = S (c .before .before) in
-    let k = known (c .before .before) in
+    let l = c .before .before in
+    let s = S (l .before .before) in
+    let k = known (l .before .before) in
     let hs = s .args .holders .now in
     let ws = s .args .shares .now in (
       range-ok (s .args .p) (k .range),
-      few (c .before .before),
-      rw (same c) (lent-above (s .args .p .d) (s .args .p .n) 0 hs ws (k .rising), lent-rising (s .args .p .d) (s .args .p .n) 0 hs ws (k .rising)),
-      rw (same c) (clear-width (s .args .p) hs ws (length (s .args .out .now)) k),
+      few (l .before .before),
+      rw (same l) (lent-above (s .args .p .d) (s .args .p .n) 0 hs ws (k .rising), lent-rising (s .args .p .d) (s .args .p .n) 0 hs ws (k .rising)),
+      rw (same l) (clear-width (s .args .p) hs ws (length (s .args .out .now)) k),
+      search needs,
+      search needs,
     )
 
--- src/lib.rt:258:9
 returns-2 : tie.Need-returns-2
 returns-2 c =
     let a = c .before .before in
-    let l = a .before in
+    let l = a .before .before .before in
     let s = S (l .before .before) in
     let e = a .answer-to .ensures in
     let n : faultOf (O s) ≡ 0 → ⊥ = λ z. c .if2 .taken (e .0 ∙ ap faultOf (sym (answered l)) ∙ z) in
     let k = fault-keeps (O s) (s .args .out .now) n in
     (e .0 ∙ ap faultOf (sym (answered l)), k .0, k .1)
 
--- src/lib.rt:264:5
 store-requires : tie.Need-store-requires
 store-requires c κs =
-    let k = known (c .before .before .before .before .before .before .before) in
-    (k .range .d-high, omega (arith, k .out-length))
+    let k = known (c .before .before .before .before .before .before .before .before .before) in
+    ((k .range .d-low, k .range .d-high), omega (arith, k .out-length))
 
--- src/lib.rt:238:1
 same-length : tie.Need-same-length
 same-length c = search needs
 
--- src/lib.rt:238:1
 returns-3 : tie.Need-returns-3
 returns-3 c =
     let a = c .before .before .before .before .before .before .before in
-    let l = a .before in
+    let l = a .before .before .before in
     let f = l .before .before in
     let s = S f in
     let k = known f in
@@ -138,7 +126,8 @@ returns-3 c =
       sym (ap faultOf o ∙ z),
       e .1 ∙ ap wrongOf (sym o),
       c .before .before .store .ensures
-          ∙ stored d (s .args .out .now) (a .answer-to .result .words) (g .words) (k .out-length) (e .2 ∙ ap (λ (x : Opening). held d (wordsOf (zeroE d) x)) (g .is)) (g .long)
+          ∙ stored d (s .args .out .now) (a .answer-to .result .words) (g .words) (k .out-length)
+          (e .2 ∙ ap (λ (x : Opening). held d (wordsOf (zeroE d) x)) (g .is)) (g .long)
           ∙ sym (ap (wordsOf (s .args .out .now)) (o ∙ g .is)),
     )
 

@@ -49,7 +49,7 @@ loop-again c =
     let l = c .before .before .before .before in
     let a = l .before .args in (
       omega arith,
-      rw (c .prepend .ensures, c .before .point .ensures, l .loop .inv .1)
+      rw (c .prepend .ensures .0, c .before .point .ensures, l .loop .inv .1)
           (packed-turn (point 6) (a .hs .now) (a .m) 0 (l .loop .i) (omega arith) (omega arith) (omega arith)),
     )
 

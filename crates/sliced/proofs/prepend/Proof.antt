@@ -1,7 +1,7 @@
 -- `sliced::prepend` meets its contract: a bit under each of six words. Assumes nothing.
 use borrow.Author.Needs.{needs}
 use native.Mathlib.Omega.{arith}
-use mathlib.Core.Path.{_≡_, sym}
+use mathlib.Core.Path.{_≡_, refl, sym}
 use Prim.Native.Nat.{ℕ, _^_, _≤_, _<_}
 use native.Mathlib.Nat.{le-of-suc-le-suc}
 use lib.ListN.{length, getD}
@@ -76,16 +76,18 @@ returns : tie.Need-returns
 returns c =
     let s = c .before .before .before .before .before .before in
     let he : length (s .args .t1) ≡ 6 = omega (arith, s .good) in
-    let hr : length (s .args .t2) ≡ 6 = omega (arith, s .good) in
-    rw (
-      c .before .before .before .before .before .push .ensures,
-      c .before .before .before .before .push2 .ensures,
-      c .before .before .before .push3 .ensures,
-      c .before .before .push4 .ensures,
-      c .before .push5 .ensures,
-      c .push6 .ensures,
+    let hr : length (s .args .t2) ≡ 6 = omega (arith, s .good) in (
+      rw (
+        c .before .before .before .before .before .push .ensures,
+        c .before .before .before .before .push2 .ensures,
+        c .before .before .before .push3 .ensures,
+        c .before .before .push4 .ensures,
+        c .before .push5 .ensures,
+        c .push6 .ensures,
+      )
+          (sym (zip-six under (s .args .t1) (s .args .t2) he hr)),
+      refl,
     )
-    (sym (zip-six under (s .args .t1) (s .args .t2) he hr))
 
 pub prepend-spec : {M : Type 1} → statement M
 prepend-spec =

@@ -1,71 +1,74 @@
--- `sliced::times` meets its contract: a turn of the loop takes one word more of the first factor. Assumes nothing.
-use borrow.Author.Needs.{needs}
+-- `sliced::times` meets its contract: in each arm the loop's contract at that d. Assumes nothing.
 use native.Mathlib.Omega.{arith}
-use mathlib.Core.Path.{_≡_}
-use Prim.Native.Nat.{_≤_}
-use lib.ListN.{length, take, drop}
-use Rattle.sliced.specs.Lane.{horner, timesLanes}
-use Rattle.sliced.proofs.Turns.{horner-start, horner-turn}
+use Rattle.words.proofs.InRange.{six}
+use borrow.Author.Needs.{needs}
 use Rattle.sliced.proofs.times.Statement.{statement}
 use Rattle.sliced.proofs.times.Tie as tie
 
-abbrev Inv-loop : tie.InvT-loop
-Inv-loop d low b a r₀ i₀ r i = (i ≤ d) × (r ≡ horner d (drop i (take d a)) b)
+lower-of-requires : tie.Need-lower-of-requires
+lower-of-requires c κs = search needs
 
-abbrev μ-loop : tie.MeasureT-loop
-μ-loop d low b a r₀ i₀ r i = i
+times-by-requires : tie.Need-times-by-requires
+times-by-requires c κs = search needs
 
-loop-holds : tie.Need-loop-holds Inv-loop μ-loop
-loop-holds c = (search needs, horner-start (c .args .d) (c .args .t3) (c .args .b))
+lower-of-requires-2 : tie.Need-lower-of-requires-2
+lower-of-requires-2 c κs = search needs
 
-sub-i : tie.Need-sub-i Inv-loop μ-loop
-sub-i c = search needs
+times-by-requires-2 : tie.Need-times-by-requires-2
+times-by-requires-2 c κs = search needs
 
-shift-requires : tie.Need-shift-requires Inv-loop μ-loop
-shift-requires c κs = search needs
+lower-of-requires-3 : tie.Need-lower-of-requires-3
+lower-of-requires-3 c κs = search needs
 
-mul-add-scaled : tie.Need-mul-add-scaled Inv-loop μ-loop
-mul-add-scaled c = search needs
+times-by-requires-3 : tie.Need-times-by-requires-3
+times-by-requires-3 c κs = search needs
 
-array-read-add-scaled : tie.Need-array-read-add-scaled Inv-loop μ-loop
-array-read-add-scaled c = search needs
+lower-of-requires-4 : tie.Need-lower-of-requires-4
+lower-of-requires-4 c κs = search needs
 
-add-scaled-requires : tie.Need-add-scaled-requires Inv-loop μ-loop
-add-scaled-requires c κs = search needs
+times-by-requires-4 : tie.Need-times-by-requires-4
+times-by-requires-4 c κs = search needs
 
-loop-less : tie.Need-loop-less Inv-loop μ-loop
-loop-less c = search needs
+lower-of-requires-5 : tie.Need-lower-of-requires-5
+lower-of-requires-5 c κs = search needs
 
-loop-again : tie.Need-loop-again Inv-loop μ-loop
-loop-again c =
-    let l = c .before .before .before in
-    let s = l .before in
-    let a = s .args in
-    let ha : length (a .t3) ≡ 6 = omega (arith, s .good) in (
-      omega arith,
-      rw (c .add-scaled .ensures, c .before .shift .ensures, s .pre .1, l .loop .inv .1)
-          (horner-turn (a .d) (a .t3) (a .b) (l .loop .i) (omega arith) (omega arith) (omega arith)),
-    )
+times-by-requires-5 : tie.Need-times-by-requires-5
+times-by-requires-5 c κs = search needs
 
-returns : tie.Need-returns Inv-loop μ-loop
-unfolding timesLanes
-returns c =
-    let l = c .before in
-    let e : l .loop .i ≡ 0 = omega arith in
-    rw e at (l .loop .inv .1)
+returns : tie.Need-returns
+returns c = rw (c .before .before .match .keys1) (c .times-by .ensures)
+
+returns-2 : tie.Need-returns-2
+returns-2 c = rw (c .before .before .match .keys2) (c .times-by2 .ensures)
+
+returns-3 : tie.Need-returns-3
+returns-3 c = rw (c .before .before .match .keys3) (c .times-by3 .ensures)
+
+returns-4 : tie.Need-returns-4
+returns-4 c = rw (c .before .before .match .keys4) (c .times-by4 .ensures)
+
+returns-5 : tie.Need-returns-5
+returns-5 c =
+    let r = c .before .before .match .rest in
+    let d = c .before .before .before .args .d in
+    rw (six d (omega arith) (omega arith) (r .0 .0 .0 .1) (r .0 .0 .1) (r .0 .1) (r .1)) (c .times-by5 .ensures)
 
 pub times-spec : {M : Type 1} → statement M
 times-spec =
     tie.close
     (tie.spec
-    Inv-loop
-    μ-loop
-    loop-holds
-    sub-i
-    shift-requires
-    mul-add-scaled
-    array-read-add-scaled
-    add-scaled-requires
-    loop-less
-    loop-again
-    returns)
+    lower-of-requires
+    times-by-requires
+    lower-of-requires-2
+    times-by-requires-2
+    lower-of-requires-3
+    times-by-requires-3
+    lower-of-requires-4
+    times-by-requires-4
+    lower-of-requires-5
+    times-by-requires-5
+    returns
+    returns-2
+    returns-3
+    returns-4
+    returns-5)

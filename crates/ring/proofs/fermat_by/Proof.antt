@@ -1,0 +1,77 @@
+-- `ring::fermat_by` meets its contract: a turn of the loop is a product and a square, of which the lowest bits are looked at. Assumes nothing.
+use borrow.Author.Needs.{needs}
+use native.Mathlib.Omega.{arith}
+use mathlib.Core.Path.{_≡_, sym, ap, _∙_}
+use Prim.Native.Nat.{suc, _+_, _-_, _≤_}
+use lib.ListN.{length, take}
+use lib.Seq.{length-take-le}
+use Rattle.ring.specs.Element.{product, lower, reduce, held}
+use Rattle.ring.specs.Inversion.{fermat}
+use Rattle.ring.proofs.Table.{length-lower}
+use Rattle.ring.proofs.Lists.{length-product}
+use Rattle.ring.proofs.Inverse.{fermat-turn}
+use Rattle.ring.proofs.Held.{held-take, const-held}
+use Rattle.ring.proofs.fermat_by.Statement.{statement}
+use Rattle.ring.proofs.fermat_by.Tie as tie
+
+abbrev Inv-loop : tie.InvT-loop
+Inv-loop d a y₀ i₀ y i = (1 ≤ i) × (i ≤ d) × (reduce 1 y ≡ held d (fermat d (take d a) (i - 1)))
+
+abbrev μ-loop : tie.MeasureT-loop
+μ-loop d a y₀ i₀ y i = d - i
+
+loop-holds : tie.Need-loop-holds Inv-loop μ-loop
+unfolding fermat reduce
+loop-holds c = (search needs, search needs, sym (const-held 1 (c .args .d) (omega arith) (omega arith)))
+
+product64-requires : tie.Need-product64-requires Inv-loop μ-loop
+product64-requires c κs = search needs
+
+product64-requires-2 : tie.Need-product64-requires-2 Inv-loop μ-loop
+product64-requires-2 c κs = search needs
+
+add-i : tie.Need-add-i Inv-loop μ-loop
+add-i c = search needs
+
+loop-less : tie.Need-loop-less Inv-loop μ-loop
+loop-less c = search needs
+
+loop-again : tie.Need-loop-again Inv-loop μ-loop
+loop-again c =
+    let l = c .before .before .before in
+    let s = l .before in
+    let d = s .args .d in
+    let a = take d (s .args .a) in
+    let i = l .loop .i in
+    let h₆ : length (s .args .a) ≡ 6 = omega (arith, s .good) in
+    let ha : length a ≡ d = length-take-le d (s .args .a) (omega arith) in
+    let hl : length (lower d) ≡ d = length-lower d (omega arith) (omega arith) in
+    let p = product 64 (lower d) (take d (l .loop .y)) a in
+    let hp : length p ≡ d = length-product 64 (lower d) (take d (l .loop .y)) a (ha ∙ sym hl) ∙ hl in
+    let ez : take d (c .before .product64 .result) ≡ p = ap (take d) (c .before .product64 .ensures) ∙ held-take d p hp in
+    let en : i + 1 - 1 ≡ suc (i - 1) = omega arith in (
+      omega arith,
+      omega arith,
+      rw (c .product642 .ensures, en)
+          (fermat-turn d (omega arith) (omega arith) a (l .loop .y) ha (i - 1) (l .loop .inv .2) (take d (c .before .product64 .result)) ez),
+    )
+
+returns : tie.Need-returns Inv-loop μ-loop
+returns c =
+    let l = c .before in
+    let e : l .loop .i ≡ l .before .args .d = omega arith in
+    l .loop .inv .2 ∙ rw e
+
+pub fermat-by-spec : {M : Type 1} → statement M
+fermat-by-spec =
+    tie.close
+    (tie.spec
+    Inv-loop
+    μ-loop
+    loop-holds
+    product64-requires
+    product64-requires-2
+    add-i
+    loop-less
+    loop-again
+    returns)
