@@ -10,9 +10,9 @@ use borrow.Author.Tests.{le-leb, lt-leb, lt-ltb, le-ltb, eq-eqb, ne-eqb}
 use Rattle.words.specs.Refusal.{first, unless, kept}
 use Rattle.words.proofs.Refusal.{pass, stop, first-none, first-some, unless-yes, unless-no, kept-some}
 use Rattle.words.proofs.Tests.{and-both, and-no, bool-cases}
-use Rattle.ring.specs.Element.{zeroE, held}
+use Rattle.galois.specs.Element.{zeroE, held}
 use Rattle.ring.specs.Calls.{lengthFault}
-use Rattle.ring.proofs.Held.{held-take}
+use Rattle.galois.proofs.Held.{held-take}
 use Rattle.sharing.specs.Opening.{Opening, declines, faultOf, wrongOf, wordsOf as outputOf, answerTo, unlessFault}
 use Rattle.sharing.proofs.Answers.{Parts, Given, given, fault-keeps}
 use Rattle.bundle.specs.Bundle.{bundleFault, bundleHeading, filesOf}

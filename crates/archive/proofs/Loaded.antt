@@ -4,8 +4,8 @@ use mathlib.Core.List.{List, [], _∷_, _++_}
 use Prim.Native.Nat.{ℕ, zero, suc, _+_, _≤_, _<_}
 use native.Mathlib.Omega.{arith}
 use lib.ListN.{length, take, getD, List·getD-append}
-use Rattle.ring.specs.Element.{Element, held}
-use Rattle.ring.proofs.Held.{held-take}
+use Rattle.galois.specs.Element.{Element, held}
+use Rattle.galois.proofs.Held.{held-take}
 use Rattle.polynomial.specs.Rows.{Rows}
 use Rattle.codewords.specs.Codeword.{Share}
 use Rattle.level.specs.Shares.{shareAt, sharesFrom, sharesOf}

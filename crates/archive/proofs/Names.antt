@@ -11,7 +11,7 @@ use lib.ListN.{length, getD}
 use lib.Pow.{pow-pos}
 use Rattle.algebra.specs.Shares.{All}
 use Rattle.algebra.proofs.Shares.{all-map}
-use Rattle.ring.specs.Element.{Element}
+use Rattle.galois.specs.Element.{Element}
 use Rattle.codewords.specs.Codeword.{Share, Polynomial, when, differs, errorSet}
 use Rattle.codewords.specs.WellFormed.{Different}
 use Rattle.codewords.proofs.ErrorSet.{bit-other, bit-clear}

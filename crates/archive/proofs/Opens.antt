@@ -18,7 +18,7 @@ use Rattle.words.proofs.InRange.{InRange}
 use Rattle.words.proofs.Refusal.{pass, first-none, unless-yes}
 use Rattle.words.proofs.Tests.{and-both}
 use Rattle.algebra.proofs.Shares.{all-map}
-use Rattle.ring.specs.Element.{Element}
+use Rattle.galois.specs.Element.{Element}
 use Rattle.ring.specs.Calls.{lengthFault}
 use Rattle.codewords.specs.Codeword.{Share, Polynomial, errors, errorSet, codeword}
 use Rattle.codewords.specs.WellFormed.{IsPoly, Holders}

@@ -14,10 +14,10 @@ use lib.Pow.{pow-pos}
 use Rattle.words.specs.Word.{addW, inWidth, allInWidth}
 use Rattle.words.proofs.Tests.{bool-cases, and-left, and-right, and-both, same-test}
 use Rattle.words.proofs.Width.{in-width-lt, lt-in-width}
-use Rattle.ring.specs.Element.{Element, zip, sum, zeroE, held, reduce}
-use Rattle.ring.proofs.Zip.{six-words}
-use Rattle.ring.proofs.Held.{sum-held, zeros-held, held-length}
-use Rattle.ring.proofs.Narrow.{reduce-sum, reduce-zeros, reduce-held}
+use Rattle.galois.specs.Element.{Element, zip, sum, zeroE, held, reduce}
+use Rattle.galois.proofs.Zip.{six-words}
+use Rattle.galois.proofs.Held.{sum-held, zeros-held, held-length}
+use Rattle.galois.proofs.Narrow.{reduce-sum, reduce-zeros, reduce-held}
 use Rattle.sharing.specs.Opening.{answerTo}
 use Rattle.records.specs.Layout.{recordSize, wordSize, wordsAt, jobLenOf, jobSize, headSize, orderSize, fileSize}
 use Rattle.records.specs.declared.Heading.{Heading}

@@ -11,9 +11,9 @@ use Rattle.words.specs.Params.{paramsOk}
 use Rattle.words.proofs.InRange.{range-ok}
 use Rattle.algebra.specs.Shares.{All}
 use Rattle.algebra.proofs.Shares.{all-map}
-use Rattle.ring.specs.Element.{Element, sum}
-use Rattle.ring.proofs.Galois.{GR}
-use Rattle.ring.proofs.Lists.{toList, ofList, length-toList, width-to, sum-of}
+use Rattle.galois.specs.Element.{Element, sum}
+use Rattle.galois.proofs.Galois.{GR}
+use Rattle.galois.proofs.Lists.{toList, ofList, length-toList, width-to, sum-of}
 use Rattle.codewords.specs.Codeword.{Share}
 use Rattle.codewords.specs.WellFormed.{IsElement, InWidth, Rising, Holders}
 use Rattle.codewords.proofs.Find.{zero-element}

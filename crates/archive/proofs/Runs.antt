@@ -9,9 +9,9 @@ use native.Mathlib.Omega.{arith}
 use lib.ListN.{length, drop, replicate, length-replicate}
 use lib.Seq.{take-all}
 use Rattle.words.specs.Word.{addW, inWidth, allInWidth}
-use Rattle.ring.specs.Element.{Element, held}
-use Rattle.ring.proofs.Lists.{length-zip}
-use Rattle.ring.proofs.Held.{zeros-after}
+use Rattle.galois.specs.Element.{Element, held}
+use Rattle.galois.proofs.Lists.{length-zip}
+use Rattle.galois.proofs.Held.{zeros-after}
 use Rattle.codewords.proofs.Find.{zero-element}
 use Rattle.records.specs.Layout.{wordSize, wordsAt}
 use Rattle.bundle.specs.Bundle.{bundleHeading, jobAt}

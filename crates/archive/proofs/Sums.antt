@@ -18,9 +18,9 @@ use Rattle.words.proofs.Width.{in-width-lt}
 use Rattle.words.proofs.Reading.{signed-sum}
 use Rattle.algebra.specs.Shares.{All}
 use Rattle.algebra.proofs.Poly.{eval-zero}
-use Rattle.ring.specs.Element.{Element, zip, sum, zeroE}
-use Rattle.ring.proofs.Galois.{GR}
-use Rattle.ring.proofs.Lists.{toList, ofList, zero-of, of-zero}
+use Rattle.galois.specs.Element.{Element, zip, sum, zeroE}
+use Rattle.galois.proofs.Galois.{GR}
+use Rattle.galois.proofs.Lists.{toList, ofList, zero-of, of-zero}
 use Rattle.codewords.specs.Codeword.{Polynomial, value}
 use Rattle.codewords.specs.WellFormed.{IsElement, IsPoly}
 use Rattle.codewords.proofs.Find.{zero-element}

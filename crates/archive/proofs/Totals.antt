@@ -22,10 +22,10 @@ use Rattle.words.specs.Word.{allInWidth}
 use Rattle.words.proofs.InRange.{InRange}
 use Rattle.words.proofs.Refusal.{first-left, first-right, unless-held, unless-yes, kept-none}
 use Rattle.words.proofs.Tests.{and-left, and-right, bool-cases}
-use Rattle.ring.specs.Element.{Element, sum, zeroE, point, same}
+use Rattle.galois.specs.Element.{Element, sum, zeroE, point, same}
 use Rattle.ring.specs.Calls.{lengthFault}
-use Rattle.ring.proofs.Elements.{same-eq, eq-same}
-use Rattle.ring.proofs.Points.{length-point}
+use Rattle.galois.proofs.Elements.{same-eq, eq-same}
+use Rattle.galois.proofs.Points.{length-point}
 use Rattle.codewords.specs.Codeword.{Share, Polynomial, value, when, differs, errors, errorSet}
 use Rattle.codewords.specs.WellFormed.{IsPoly}
 use Rattle.codewords.proofs.Value.{rows-of, value-element}

@@ -8,7 +8,7 @@ use lib.ListN.{length, getD}
 use Rattle.words.specs.Refusal.{first, unless, kept}
 use Rattle.words.specs.Word.{allInWidth}
 use Rattle.words.specs.declared.Params.{Params}
-use Rattle.ring.specs.Element.{Element, zip, sum, zeroE}
+use Rattle.galois.specs.Element.{Element, zip, sum, zeroE}
 use Rattle.ring.specs.Calls.{lengthFault}
 use Rattle.codewords.specs.Codeword.{Share}
 use Rattle.sharing.specs.Opening.{Opening, answerTo, unlessFault}

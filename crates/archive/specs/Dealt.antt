@@ -3,7 +3,7 @@ use Prim.Native.Nat.{ℕ, zero, suc, _+_}
 use mathlib.Core.Bool.{Bool, not}
 use mathlib.Core.List.{List, []}
 use lib.ListN.{getD, replicate}
-use Rattle.ring.specs.Element.{Element, zeroE, point, same}
+use Rattle.galois.specs.Element.{Element, zeroE, point, same}
 use Rattle.polynomial.specs.Polynomial.{Polynomial, value}
 use Rattle.codewords.specs.Codeword.{when}
 use Rattle.bundle.specs.Bundle.{filesOf}

@@ -5,7 +5,7 @@ ghost use Prim.Native.Nat.{ℕ, _+_, _-_, _*_, _≤_, _<_};
 ghost use lib.ListN.{length, take, drop, replicate};
 ghost use Rattle.words.specs.Refusal.{kept};
 ghost use Rattle.words.specs.Word.{inWidth, allInWidth};
-ghost use Rattle.ring.specs.Element.{zeroE, held, reduce};
+ghost use Rattle.galois.specs.Element.{zeroE, held, reduce};
 ghost use Rattle.sharing.specs.Opening.{faultOf, wrongOf, wordsOf as outputOf};
 ghost use Rattle.bundle.specs.Bundle.{bundleFault, bundleHeading, filesOf};
 ghost use Rattle.bundle.specs.Contents.{wordsFrom};

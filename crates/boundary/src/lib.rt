@@ -6,7 +6,7 @@ ghost use Prim.Native.Nat.{_^_, _≤_, _<_};
 ghost use lib.ListN.{length};
 ghost use Rattle.words.specs.Refusal.{first, kept};
 ghost use Rattle.words.specs.Signed.{signedOf};
-ghost use Rattle.ring.specs.Element.{sum, product, lower, inverse};
+ghost use Rattle.galois.specs.Element.{sum, product, lower, inverse};
 ghost use Rattle.ring.specs.Calls.{operandFault, operandsFault};
 ghost use Rattle.sharing.specs.Dealing.{dealFault, dealt};
 ghost use Rattle.sharing.specs.Opening.{faultOf, wordsOf};

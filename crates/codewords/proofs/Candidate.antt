@@ -20,11 +20,11 @@ use Rattle.algebra.proofs.Shares.{all-map, nonroot}
 use Rattle.algebra.proofs.Interpolation.{interp, interp-only, length-interp}
 use Rattle.algebra.proofs.KeyEquation.{Pairs, Inv}
 use Rattle.algebra.proofs.FieldDecoder.{right, enough}
-use Rattle.ring.specs.Element.{point, same, zeroE}
-use Rattle.ring.proofs.Galois.{GR}
-use Rattle.ring.proofs.Lists.{toList, ofList, length-toList, width-to, zero-of}
-use Rattle.ring.proofs.Field.{is-field}
-use Rattle.ring.proofs.Instance.{ringOf}
+use Rattle.galois.specs.Element.{point, same, zeroE}
+use Rattle.galois.proofs.Galois.{GR}
+use Rattle.galois.proofs.Lists.{toList, ofList, length-toList, width-to, zero-of}
+use Rattle.galois.proofs.Field.{is-field}
+use Rattle.galois.proofs.Instance.{ringOf}
 use Rattle.codewords.specs.Codeword.{Share, Polynomial, value, errors, codeword}
 use Rattle.codewords.specs.WellFormed.{IsElement, IsPoly, Different, Holders}
 use Rattle.codewords.proofs.Value.{shareOf, polyOf, Rows, rows-of, value-at, count-errors}

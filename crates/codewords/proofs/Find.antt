@@ -14,10 +14,10 @@ use Rattle.algebra.specs.Shares.{All}
 use Rattle.algebra.proofs.Shares.{all-map}
 use Rattle.algebra.proofs.Vec.{nil}
 use Rattle.algebra.proofs.Extension.{pad}
-use Rattle.ring.specs.Element.{Element, zeroE, reduce, tuples, elements}
-use Rattle.ring.proofs.Galois.{Zk}
-use Rattle.ring.proofs.Lists.{reduce-width, width-reduce, width-to, zero-of}
-use Rattle.ring.proofs.Elements.{each-all, each-only, listed, listed-only}
+use Rattle.galois.specs.Element.{Element, zeroE, reduce, tuples, elements}
+use Rattle.galois.proofs.Galois.{Zk}
+use Rattle.galois.proofs.Lists.{reduce-width, width-reduce, width-to, zero-of}
+use Rattle.galois.proofs.Elements.{each-all, each-only, listed, listed-only}
 use Rattle.codewords.specs.Codeword.{Polynomial, polynomials, find}
 use Rattle.codewords.specs.WellFormed.{IsElement, IsPoly}
 

@@ -19,10 +19,10 @@ use Rattle.algebra.proofs.Shares.{all-map, all-map₂, all-take}
 use Rattle.algebra.proofs.Ring.{neg-mul, one-mul, fn-sub}
 use Rattle.algebra.proofs.Poly.{scale, lin, eval-lin, length-scale, length-sum}
 use Rattle.algebra.proofs.Vec.{vmap}
-use Rattle.ring.specs.Element.{Element, zeroE, reduce, point}
-use Rattle.ring.proofs.Galois.{GR, low, modulus}
-use Rattle.ring.proofs.Lists.{toList, ofList}
-use Rattle.ring.proofs.Points.{length-point, low-point}
+use Rattle.galois.specs.Element.{Element, zeroE, reduce, point}
+use Rattle.galois.proofs.Galois.{GR, low, modulus}
+use Rattle.galois.proofs.Lists.{toList, ofList}
+use Rattle.galois.proofs.Points.{length-point, low-point}
 use Rattle.codewords.specs.Codeword.{Share, Polynomial, value, when, differs, errors, errorSet, codeword}
 use Rattle.codewords.specs.Residue.{residue, bitOf, atBit, AgreeBelow, without}
 use Rattle.codewords.specs.WellFormed.{IsElement, IsPoly, InWidth, Holders}

@@ -12,12 +12,12 @@ use Rattle.algebra.specs.Poly.{eval}
 use Rattle.algebra.specs.Shares.{All}
 use Rattle.algebra.proofs.Shares.{all-map}
 use Rattle.algebra.proofs.Poly.{padd, scale, eval-padd, eval-scale}
-use Rattle.ring.specs.Element.{Element, sum, product, lower, point, same}
-use Rattle.ring.proofs.Galois.{GR}
-use Rattle.ring.proofs.Table.{length-lower}
-use Rattle.ring.proofs.Lists.{toList, ofList, length-toList, of-to, width-to, sum-of, sum-to, product-of}
-use Rattle.ring.proofs.Elements.{same-refl}
-use Rattle.ring.proofs.Points.{length-point}
+use Rattle.galois.specs.Element.{Element, sum, product, lower, point, same}
+use Rattle.galois.proofs.Galois.{GR}
+use Rattle.galois.proofs.Table.{length-lower}
+use Rattle.galois.proofs.Lists.{toList, ofList, length-toList, of-to, width-to, sum-of, sum-to, product-of}
+use Rattle.galois.proofs.Elements.{same-refl}
+use Rattle.galois.proofs.Points.{length-point}
 use Rattle.codewords.specs.Codeword.{Share, Polynomial, value, when, differs, errors, codeword}
 use Rattle.codewords.specs.WellFormed.{IsElement, IsPoly, Holders}
 use Rattle.codewords.proofs.Value.{polyOf, Rows, rows-of, value-of}

@@ -15,10 +15,10 @@ use Rattle.algebra.proofs.Units.{times, times-mul}
 use Rattle.algebra.proofs.Vec.{Vec, nil, cons, vmap}
 use Rattle.algebra.proofs.Extension as X
 use Rattle.algebra.proofs.Poly.{scale, eval-scale, eval-map}
-use Rattle.ring.specs.Element.{Element, reduce}
-use Rattle.ring.proofs.Zmod.{Word, word, word-ext, times-val}
-use Rattle.ring.proofs.Galois.{GR, Zk, modulus, rho, low, lowW, quotW, times-quot}
-use Rattle.ring.proofs.Lists.{toList, ofList, length-reduce, width-reduce, low-of, low-to, of-reduce}
+use Rattle.galois.specs.Element.{Element, reduce}
+use Rattle.galois.proofs.Zmod.{Word, word, word-ext, times-val}
+use Rattle.galois.proofs.Galois.{GR, Zk, modulus, rho, low, lowW, quotW, times-quot}
+use Rattle.galois.proofs.Lists.{toList, ofList, length-reduce, width-reduce, low-of, low-to, of-reduce}
 use Rattle.codewords.specs.Codeword.{Polynomial, value}
 use Rattle.codewords.specs.Residue.{bitOf}
 use Rattle.codewords.specs.WellFormed.{IsElement, IsPoly}

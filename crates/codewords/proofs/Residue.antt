@@ -12,12 +12,12 @@ use Rattle.algebra.specs.Shares.{All}
 use Rattle.algebra.proofs.Ring.{add-neg, sub-zero, eqb-true}
 use Rattle.algebra.proofs.Extension.{pad}
 use Rattle.algebra.proofs.Vec.{nil, cons}
-use Rattle.ring.specs.Element.{Element, zeroE, difference, reduce, point, same}
-use Rattle.ring.proofs.Zmod.{word, word-ext}
-use Rattle.ring.proofs.Galois.{GR, Zk}
-use Rattle.ring.proofs.Lists.{toList, ofList, toList-inj, length-toList, width-to, of-to, to-of, zero-of, difference-of, of-difference}
-use Rattle.ring.proofs.Elements.{same-eq, eq-same}
-use Rattle.ring.proofs.Instance.{ringOf}
+use Rattle.galois.specs.Element.{Element, zeroE, difference, reduce, point, same}
+use Rattle.galois.proofs.Zmod.{word, word-ext}
+use Rattle.galois.proofs.Galois.{GR, Zk}
+use Rattle.galois.proofs.Lists.{toList, ofList, toList-inj, length-toList, width-to, of-to, to-of, zero-of, difference-of, of-difference}
+use Rattle.galois.proofs.Elements.{same-eq, eq-same}
+use Rattle.galois.proofs.Instance.{ringOf}
 use Rattle.codewords.specs.Codeword.{Share, Polynomial, value, differs}
 use Rattle.codewords.specs.Residue.{residue, bitOf}
 use Rattle.codewords.specs.WellFormed.{IsElement, IsPoly}

@@ -14,11 +14,11 @@ use borrow.Author.Tests.{leb-true, leb-false, le-leb, lt-leb}
 use Rattle.algebra.specs.Ring.{Unit-of}
 use Rattle.algebra.specs.Shares.{All, Apart}
 use Rattle.algebra.proofs.Shares as A
-use Rattle.ring.specs.Element.{Element, zeroE, reduce}
-use Rattle.ring.proofs.Galois.{GR}
-use Rattle.ring.proofs.Lists.{toList, ofList, of-to, to-of}
-use Rattle.ring.proofs.Points.{points-apart}
-use Rattle.ring.proofs.Instance.{ringOf}
+use Rattle.galois.specs.Element.{Element, zeroE, reduce}
+use Rattle.galois.proofs.Galois.{GR}
+use Rattle.galois.proofs.Lists.{toList, ofList, of-to, to-of}
+use Rattle.galois.proofs.Points.{points-apart}
+use Rattle.galois.proofs.Instance.{ringOf}
 use Rattle.codewords.specs.Codeword.{Share, Polynomial, errors, polynomials, codeword}
 use Rattle.codewords.specs.WellFormed.{IsElement, IsPoly, Holders}
 use Rattle.codewords.proofs.Find.{fixed, listed-poly, poly-listed, find-some, find-none, none-find, find-only}

@@ -13,13 +13,13 @@ use Rattle.algebra.specs.Shares as A
 use Rattle.algebra.specs.Shares.{bit, count, All, misses}
 use Rattle.algebra.proofs.Ring.{add-zero, mul-zero, eqb-true}
 use Rattle.algebra.proofs.Shares.{all-map}
-use Rattle.ring.specs.Element.{Element, sum, product, lower, zeroE, point, same}
-use Rattle.ring.proofs.Galois.{GR}
-use Rattle.ring.proofs.Table.{length-lower}
-use Rattle.ring.proofs.Lists.{toList, ofList, length-toList, of-to, to-of, width-to, zero-of, of-zero, sum-of, product-of}
-use Rattle.ring.proofs.Elements.{same-eq, eq-same}
-use Rattle.ring.proofs.Points.{length-point, pointR}
-use Rattle.ring.proofs.Instance.{ringOf}
+use Rattle.galois.specs.Element.{Element, sum, product, lower, zeroE, point, same}
+use Rattle.galois.proofs.Galois.{GR}
+use Rattle.galois.proofs.Table.{length-lower}
+use Rattle.galois.proofs.Lists.{toList, ofList, length-toList, of-to, to-of, width-to, zero-of, of-zero, sum-of, product-of}
+use Rattle.galois.proofs.Elements.{same-eq, eq-same}
+use Rattle.galois.proofs.Points.{length-point, pointR}
+use Rattle.galois.proofs.Instance.{ringOf}
 use Rattle.codewords.specs.Codeword.{Share, Polynomial, value, differs, errors, when}
 use Rattle.codewords.specs.WellFormed.{IsElement, IsPoly, InWidth}
 use Rattle.codewords.proofs.Find.{fixed, zero-element}

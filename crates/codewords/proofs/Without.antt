@@ -11,7 +11,7 @@ use native.Mathlib.Omega.{arith}
 use lib.ListN.{length, take}
 use Rattle.algebra.specs.Shares.{All}
 use Rattle.algebra.proofs.Shares.{all-map, all-take}
-use Rattle.ring.specs.Element.{Element}
+use Rattle.galois.specs.Element.{Element}
 use Rattle.codewords.specs.Codeword.{Share, Polynomial, when, differs, errors, errorSet}
 use Rattle.codewords.specs.Residue.{without}
 use Rattle.codewords.specs.WellFormed.{IsElement, InWidth, Pairwise, Different, Rising, Holders}

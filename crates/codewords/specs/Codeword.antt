@@ -5,7 +5,7 @@ use mathlib.Core.Bool.{Bool, true, false, not}
 use mathlib.Core.List.{List, [], _∷_}
 use mathlib.Core.Option.{Option, none, some}
 use lib.Dec.{leb}
-use Rattle.ring.specs.Element.{Element, point, same, elements, tuples}
+use Rattle.galois.specs.Element.{Element, point, same, elements, tuples}
 pub use Rattle.polynomial.specs.Polynomial.{Polynomial}
 unfoldable pub use Rattle.polynomial.specs.Polynomial.{value}
 

@@ -7,7 +7,7 @@ use mathlib.Core.List.{List, [], _∷_}
 use lib.ListN.{length}
 use Rattle.words.specs.Word.{allInWidth}
 use Rattle.algebra.specs.Shares.{All}
-use Rattle.ring.specs.Element.{Element}
+use Rattle.galois.specs.Element.{Element}
 use Rattle.codewords.specs.Codeword.{Share, Polynomial}
 
 -- "An element is d words, each 0 to 2^k − 1"

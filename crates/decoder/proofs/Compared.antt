@@ -13,9 +13,9 @@ use lib.ListN.{length, take, getD}
 use lib.Seq.{take-all}
 use Rattle.algebra.specs.Shares.{All}
 use Rattle.algebra.proofs.Shares.{all-map}
-use Rattle.ring.specs.Element.{Element, zeroE, same, held}
-use Rattle.ring.proofs.Elements.{same-eq, eq-same, same-refl}
-use Rattle.ring.proofs.Held.{zeros-after}
+use Rattle.galois.specs.Element.{Element, zeroE, same, held}
+use Rattle.galois.proofs.Elements.{same-eq, eq-same, same-refl}
+use Rattle.galois.proofs.Held.{zeros-after}
 use Rattle.polynomial.specs.Polynomial.{Polynomial, value}
 use Rattle.polynomial.specs.Rows.{Rows}
 use Rattle.codewords.specs.Codeword.{Share, when, differs, errors, errorSet}

@@ -12,11 +12,11 @@ use Rattle.algebra.specs.Shares.{misses}
 use Rattle.algebra.proofs.Poly.{Low, Same, low-length, eval-same, same-take}
 use Rattle.algebra.proofs.Shares.{all-map, count-none}
 use Rattle.algebra.proofs.Interpolation as I
-use Rattle.ring.specs.Element.{point, held, reduce}
-use Rattle.ring.proofs.Galois.{GR}
-use Rattle.ring.proofs.Lists.{toList, ofList, of-to}
-use Rattle.ring.proofs.Points.{length-point}
-use Rattle.ring.proofs.Instance.{ringOf}
+use Rattle.galois.specs.Element.{point, held, reduce}
+use Rattle.galois.proofs.Galois.{GR}
+use Rattle.galois.proofs.Lists.{toList, ofList, of-to}
+use Rattle.galois.proofs.Points.{length-point}
+use Rattle.galois.proofs.Instance.{ringOf}
 use Rattle.polynomial.specs.Rows.{Rows, coefs, reduceRows, rootRows, extendRows}
 use Rattle.polynomial.proofs.Change.{length-change}
 use Rattle.polynomial.proofs.OverRing.{polyOf, row, Exact, exact-by, zero-rows, one-rows, take-row}

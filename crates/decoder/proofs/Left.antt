@@ -8,8 +8,8 @@ use native.Mathlib.Omega.{arith}
 use lib.ListN.{length, take, getD, replicate}
 use lib.Seq.{take-all}
 use Rattle.algebra.proofs.Shares.{all-map}
-use Rattle.ring.specs.Element.{zeroE, held}
-use Rattle.ring.proofs.Held.{held-length}
+use Rattle.galois.specs.Element.{zeroE, held}
+use Rattle.galois.proofs.Held.{held-length}
 use Rattle.polynomial.specs.Rows.{Rows, coefs}
 use Rattle.codewords.specs.Codeword.{Share, Polynomial, errorSet}
 use Rattle.codewords.specs.Residue.{residue, left}

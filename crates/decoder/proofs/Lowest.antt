@@ -18,9 +18,9 @@ use borrow.Author.Tests.{ltb-true}
 use Rattle.words.specs.Word.{allInWidth}
 use Rattle.words.proofs.Tests.{and-left, and-right}
 use Rattle.algebra.specs.Shares.{All}
-use Rattle.ring.specs.Element.{Element, zeroE, held}
-use Rattle.ring.proofs.Zip.{six-words}
-use Rattle.ring.proofs.Held.{zeros-after}
+use Rattle.galois.specs.Element.{Element, zeroE, held}
+use Rattle.galois.proofs.Zip.{six-words}
+use Rattle.galois.proofs.Held.{zeros-after}
 use Rattle.codewords.specs.Codeword.{Share, Polynomial}
 use Rattle.codewords.specs.Residue.{residue, left, bitOf, AgreeBelow}
 use Rattle.codewords.specs.WellFormed.{IsElement}

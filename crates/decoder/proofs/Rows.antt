@@ -10,8 +10,8 @@ use lib.ListN.{length, take, getD, set, replicate, length-map, List·getD-map, r
 use lib.Pow.{pow-lt}
 use lib.Seq.{paste, take-suc-set, take-set-lt, take-take, map-set-same, take-paste}
 use Rattle.words.proofs.Fill.{fill-next, fill-ahead}
-use Rattle.ring.specs.Element.{Element, reduce}
-use Rattle.ring.proofs.Narrow.{reduce-zeros}
+use Rattle.galois.specs.Element.{Element, reduce}
+use Rattle.galois.proofs.Narrow.{reduce-zeros}
 use Rattle.polynomial.specs.Rows.{Rows, Shaped, coefs, reduceRows, change, lessTimes, lessMultiple, rootRows, excess, extendRows}
 use Rattle.polynomial.proofs.Shape.{shaped-row}
 

@@ -5,7 +5,7 @@ use mathlib.Core.Option.{Option, none, some}
 use Prim.Native.Nat.{ℕ, _≤_}
 use lib.ListN.{getD}
 use Rattle.algebra.specs.Shares.{All}
-use Rattle.ring.specs.Element.{held}
+use Rattle.galois.specs.Element.{held}
 use Rattle.polynomial.specs.Polynomial.{Polynomial}
 use Rattle.codewords.specs.Codeword.{Share, errorSet}
 use Rattle.codewords.specs.WellFormed.{Rising}

@@ -4,7 +4,7 @@ use mathlib.Core.List.{List, [], _∷_}
 use Prim.Native.Nat.{ℕ, suc}
 use lib.Bits.{bitOr}
 use lib.ListN.{getD}
-use Rattle.ring.specs.Element.{Element, held}
+use Rattle.galois.specs.Element.{Element, held}
 use Rattle.polynomial.specs.Rows.{Rows, coefs}
 use Rattle.codewords.specs.Codeword.{Share, errors}
 use Rattle.codewords.specs.WellFormed.{IsPoly}

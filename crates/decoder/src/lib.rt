@@ -7,7 +7,7 @@ ghost use mathlib.Core.Bool.{true};
 ghost use mathlib.Core.List.{[], _∷_};
 ghost use Prim.Native.Nat.{ℕ, suc, _+_, _*_, _≤_, _<_};
 ghost use lib.ListN.{length, take, getD, replicate};
-ghost use Rattle.ring.specs.Element.{held, lower};
+ghost use Rattle.galois.specs.Element.{held, lower};
 ghost use Rattle.polynomial.specs.Rows.{Shaped, reduceRows};
 ghost use Rattle.codewords.specs.Codeword.{errorSet, codeword};
 ghost use Rattle.codewords.specs.Residue.{without};

@@ -8,7 +8,7 @@ use Rattle.words.specs.Word.{addW, subW, negW, mulW, allInWidth}
 use Rattle.words.specs.Params.{paramsOk}
 use Rattle.words.specs.Signed.{meaning}
 use Rattle.words.specs.declared.Params.{Params}
-use Rattle.ring.specs.Element.{Element, lower, product, inverse}
+use Rattle.galois.specs.Element.{Element, lower, product, inverse}
 use Rattle.sharing.specs.Dealing.{dealt}
 use Rattle.sharing.specs.Opening.{Opening, declines, gives, opening}
 

@@ -9,7 +9,7 @@ use lib.ListN.{length, take, getD, length-map, List·getD-map}
 use borrow.Author.Tests.{lt-ltb}
 use Rattle.words.specs.Word.{allInWidth}
 use Rattle.words.proofs.Tests.{and-both}
-use Rattle.ring.specs.Element.{Element, point}
+use Rattle.galois.specs.Element.{Element, point}
 use Rattle.polynomial.specs.Rows.{Rows}
 use Rattle.codewords.specs.Codeword.{Share}
 use Rattle.codewords.specs.Residue.{bitOf, bitShare}

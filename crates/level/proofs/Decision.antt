@@ -6,7 +6,7 @@ use Prim.Native.Nat.{ℕ, suc, _+_, _*_, _≤_, _<_}
 use native.Mathlib.Omega.{arith}
 use lib.Count.{ones}
 use lib.ListN.{length, getD}
-use Rattle.ring.specs.Element.{point}
+use Rattle.galois.specs.Element.{point}
 use Rattle.polynomial.specs.Rows.{Rows}
 use Rattle.codewords.specs.Codeword.{Share, codeword}
 use Rattle.codewords.specs.Residue.{bitOf, bitShare}

@@ -9,12 +9,12 @@ use native.Mathlib.Omega.{arith}
 use lib.Dec.{eqb}
 use lib.ListN.{length, replicate}
 use Rattle.algebra.specs.Ring.{CommRing}
-use Rattle.ring.specs.Element.{sum, product, lower, zeroE, oneE, same}
-use Rattle.ring.proofs.Galois.{GR}
-use Rattle.ring.proofs.Lists.{toList, sum-to, product-to, zero-of, one-of}
-use Rattle.ring.proofs.Held.{to-six}
-use Rattle.ring.proofs.Table.{length-lower}
-use Rattle.ring.proofs.Instance.{ringOf}
+use Rattle.galois.specs.Element.{sum, product, lower, zeroE, oneE, same}
+use Rattle.galois.proofs.Galois.{GR}
+use Rattle.galois.proofs.Lists.{toList, sum-to, product-to, zero-of, one-of}
+use Rattle.galois.proofs.Held.{to-six}
+use Rattle.galois.proofs.Table.{length-lower}
+use Rattle.galois.proofs.Instance.{ringOf}
 use Rattle.sliced.specs.Lane.{lane, plusLanes, timesLanes, spreadLane, supportOf}
 use Rattle.sliced.proofs.Lanes.{lane-plus, lane-times, lane-spread, support-lane, length-plus, length-times, length-spread}
 use Rattle.level.specs.KeyEquation.{ones, zeroAt, mixLanes, rootLanes}

@@ -15,8 +15,8 @@ use Rattle.algebra.proofs.Poly.{eval-lin, eval-mulx}
 use Rattle.algebra.proofs.Shares.{nonroot}
 use Rattle.algebra.proofs.KeyEquation as K
 use Rattle.algebra.proofs.KeyEquation.{Pivot, none, first, second, pivot, gap, gap-lin, gap-mulx}
-use Rattle.ring.proofs.Galois.{GR, neg-self}
-use Rattle.ring.proofs.Instance.{ringOf}
+use Rattle.galois.proofs.Galois.{GR, neg-self}
+use Rattle.galois.proofs.Instance.{ringOf}
 use Rattle.sliced.specs.Lane.{supportOf}
 use Rattle.level.specs.KeyEquation.{zeroAt, raised, swapped, moveLanes, stepLanes, startLanes, runLanes}
 use Rattle.level.specs.declared.Pairs.{Pairs}

@@ -13,11 +13,11 @@ use lib.Seq.{length-take-le, take-at, take-append-le, getD-take, getD-drop, getD
 use Rattle.words.specs.Word.{subW}
 use Rattle.words.proofs.Fill.{fill-more, fill-within}
 use Rattle.algebra.proofs.Shares.{all-at, all-map}
-use Rattle.ring.specs.Element.{zeroE, difference, point, held}
-use Rattle.ring.proofs.Zip.{zip-take}
-use Rattle.ring.proofs.Lists.{length-zip}
-use Rattle.ring.proofs.Held.{held-same, held-take, zeros-held}
-use Rattle.ring.proofs.Points.{length-point}
+use Rattle.galois.specs.Element.{zeroE, difference, point, held}
+use Rattle.galois.proofs.Zip.{zip-take}
+use Rattle.galois.proofs.Lists.{length-zip}
+use Rattle.galois.proofs.Held.{held-same, held-take, zeros-held}
+use Rattle.galois.proofs.Points.{length-point}
 use Rattle.polynomial.specs.Polynomial.{Polynomial, value}
 use Rattle.polynomial.specs.Rows.{Rows, Shaped, coefs}
 use Rattle.polynomial.proofs.Shape.{shaped-all}

@@ -19,8 +19,8 @@ use Rattle.algebra.proofs.Ring.{unit-one, unit-mul, zero-add, one-mul}
 use Rattle.algebra.proofs.Poly.{eval-mulx}
 use Rattle.algebra.proofs.Shares.{all-map}
 use Rattle.algebra.proofs.Interpolation.{nodal, nodal-unit, excess, excess-more}
-use Rattle.ring.proofs.Galois.{GR, neg-self}
-use Rattle.ring.proofs.Instance.{ringOf}
+use Rattle.galois.proofs.Galois.{GR, neg-self}
+use Rattle.galois.proofs.Instance.{ringOf}
 use Rattle.codewords.specs.Codeword.{Share}
 use Rattle.codewords.specs.WellFormed.{Different, Holders}
 use Rattle.codewords.proofs.Value.{shareOf}

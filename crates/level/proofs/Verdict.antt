@@ -23,12 +23,12 @@ use Rattle.algebra.proofs.Ring.{unit-cancel, sub-zero, eqb-true, add-neg, mul-z
 use Rattle.algebra.proofs.Shares.{all-at, all-map, nonroot}
 use Rattle.algebra.proofs.Interpolation.{interp, length-interp}
 use Rattle.algebra.proofs.KeyEquation.{Pairs, Inv, run, inv-run}
-use Rattle.ring.specs.Element.{point}
-use Rattle.ring.proofs.Galois.{GR}
-use Rattle.ring.proofs.Lists.{toList, of-to, to-of}
-use Rattle.ring.proofs.Points.{to-point}
-use Rattle.ring.proofs.Field.{is-field}
-use Rattle.ring.proofs.Instance.{ringOf}
+use Rattle.galois.specs.Element.{point}
+use Rattle.galois.proofs.Galois.{GR}
+use Rattle.galois.proofs.Lists.{toList, of-to, to-of}
+use Rattle.galois.proofs.Points.{to-point}
+use Rattle.galois.proofs.Field.{is-field}
+use Rattle.galois.proofs.Instance.{ringOf}
 use Rattle.codewords.specs.Codeword.{Share, Polynomial, differs, errors, errorSet, codeword, when}
 use Rattle.codewords.specs.WellFormed.{IsElement, InWidth, Holders}
 use Rattle.codewords.proofs.Find.{fixed}

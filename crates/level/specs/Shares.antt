@@ -7,7 +7,7 @@ use lib.Bits.{bitOr}
 use lib.Dec.{eqb}
 use lib.ListN.{length, take, drop, getD}
 use Rattle.algebra.specs.Shares.{All}
-use Rattle.ring.specs.Element.{Element, held}
+use Rattle.galois.specs.Element.{Element, held}
 use Rattle.polynomial.specs.Rows.{Rows}
 use Rattle.codewords.specs.Codeword.{Share, Polynomial}
 use Rattle.codewords.specs.Residue.{residue}

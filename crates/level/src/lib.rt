@@ -9,7 +9,7 @@ ghost use Prim.Native.Nat.{suc, _+_, _*_, _≤_, _<_};
 ghost use lib.Dec.{leb};
 ghost use lib.ListN.{length, take};
 ghost use Rattle.algebra.proofs.KeyEquation.{pivot};
-ghost use Rattle.ring.specs.Element.{held, lower};
+ghost use Rattle.galois.specs.Element.{held, lower};
 ghost use Rattle.polynomial.specs.Rows.{Shaped, coefs};
 ghost use Rattle.codewords.specs.Codeword.{codeword};
 ghost use Rattle.codewords.specs.Residue.{residue, bitShare};

@@ -11,8 +11,8 @@ use lib.ListN.{length, getD, take}
 use Rattle.words.specs.Word.{allInWidth}
 use Rattle.words.specs.declared.Params.{Params}
 use Rattle.words.proofs.Tests.{bool-cases}
-use Rattle.ring.specs.Element.{Element, zeroE, held}
-use Rattle.ring.proofs.Held.{held-take}
+use Rattle.galois.specs.Element.{Element, zeroE, held}
+use Rattle.galois.proofs.Held.{held-take}
 use Rattle.codewords.specs.Codeword.{Share, Polynomial, codeword}
 use Rattle.codewords.specs.WellFormed.{IsElement, IsPoly}
 use Rattle.codewords.proofs.Unique.{codeword-sound}

@@ -11,14 +11,14 @@ use Rattle.words.specs.Word.{subW}
 use Rattle.algebra.specs.Ring.{CommRing}
 use Rattle.algebra.specs.Poly.{eval}
 use Rattle.algebra.specs.Shares.{All}
-use Rattle.ring.specs.Element.{Element, difference, lower, product, zeroE, oneE, reduce, same, elements, inverse, held}
-use Rattle.ring.proofs.Galois.{GR}
-use Rattle.ring.proofs.Table.{length-lower}
-use Rattle.ring.proofs.Lists.{toList, ofList, length-reduce, length-zip, length-product, to-of, of-reduce}
-use Rattle.ring.proofs.Lists.{difference-of, of-difference, of-product, product-same}
-use Rattle.ring.proofs.Elements.{listed-only, first-same}
-use Rattle.ring.proofs.Inverse.{length-inverse}
-use Rattle.ring.proofs.Narrow.{reduce-zeros, reduce-held}
+use Rattle.galois.specs.Element.{Element, difference, lower, product, zeroE, oneE, reduce, same, elements, inverse, held}
+use Rattle.galois.proofs.Galois.{GR}
+use Rattle.galois.proofs.Table.{length-lower}
+use Rattle.galois.proofs.Lists.{toList, ofList, length-reduce, length-zip, length-product, to-of, of-reduce}
+use Rattle.galois.proofs.Lists.{difference-of, of-difference, of-product, product-same}
+use Rattle.galois.proofs.Elements.{listed-only, first-same}
+use Rattle.galois.proofs.Inverse.{length-inverse}
+use Rattle.galois.proofs.Narrow.{reduce-zeros, reduce-held}
 use Rattle.polynomial.specs.Polynomial.{value}
 use Rattle.polynomial.specs.Rows.{Rows, coefs, change, lessTimes, lessMultiple, subtractRows, rootRows, excess, extendRows, reduceRows}
 use Rattle.polynomial.proofs.Change.{change-map-all}

@@ -11,11 +11,11 @@ use Rattle.algebra.specs.Shares.{Share}
 use Rattle.algebra.proofs.Ring.{signed}
 use Rattle.algebra.proofs.Poly.{Low, Same, lin, mulx, scale, coef-lin, coef-padd, coef-scale, low-mono, low-length, eval-same, same-pad}
 use Rattle.algebra.proofs.Interpolation.{interp, nodal, length-interp, length-nodal}
-use Rattle.ring.specs.Element.{Element, difference, product, lower, inverse}
-use Rattle.ring.proofs.Galois.{GR}
-use Rattle.ring.proofs.Table.{length-lower}
-use Rattle.ring.proofs.Lists.{toList, ofList, length-toList, of-to, difference-of, product-of}
-use Rattle.ring.proofs.Instance.{ringOf, invert, invert-is}
+use Rattle.galois.specs.Element.{Element, difference, product, lower, inverse}
+use Rattle.galois.proofs.Galois.{GR}
+use Rattle.galois.proofs.Table.{length-lower}
+use Rattle.galois.proofs.Lists.{toList, ofList, length-toList, of-to, difference-of, product-of}
+use Rattle.galois.proofs.Instance.{ringOf, invert, invert-is}
 use Rattle.polynomial.specs.Polynomial.{value}
 use Rattle.polynomial.specs.Rows.{Rows, coefs, rootRows, excess, extendRows}
 use Rattle.polynomial.proofs.OverRing.{

@@ -13,14 +13,14 @@ use Rattle.algebra.specs.Shares.{All}
 use Rattle.algebra.proofs.Ring.{mul-zero, add-zero}
 use Rattle.algebra.proofs.Vec.{cons}
 use Rattle.algebra.proofs.Poly.{Low, Same, lin, mulx, eval-same, same-take}
-use Rattle.ring.specs.Element.{Element, sum, difference, lower, product, oneE, reduce, held}
-use Rattle.ring.proofs.Zmod.{word}
-use Rattle.ring.proofs.Galois.{GR}
-use Rattle.ring.proofs.Table.{length-lower}
-use Rattle.ring.proofs.Lists.{toList, ofList, length-toList, of-to, to-of, sum-of, difference-to, product-of, zero-of, one-of}
-use Rattle.ring.proofs.Lists.{length-reduce, of-reduce, reduce-product, product-same}
-use Rattle.ring.proofs.Held.{held-take, held-length, zeros-held, to-six}
-use Rattle.ring.proofs.Narrow.{reduce-zeros, reduce-sum, reduce-held, sum-reduce}
+use Rattle.galois.specs.Element.{Element, sum, difference, lower, product, oneE, reduce, held}
+use Rattle.galois.proofs.Zmod.{word}
+use Rattle.galois.proofs.Galois.{GR}
+use Rattle.galois.proofs.Table.{length-lower}
+use Rattle.galois.proofs.Lists.{toList, ofList, length-toList, of-to, to-of, sum-of, difference-to, product-of, zero-of, one-of}
+use Rattle.galois.proofs.Lists.{length-reduce, of-reduce, reduce-product, product-same}
+use Rattle.galois.proofs.Held.{held-take, held-length, zeros-held, to-six}
+use Rattle.galois.proofs.Narrow.{reduce-zeros, reduce-sum, reduce-held, sum-reduce}
 use Rattle.polynomial.specs.Polynomial.{Polynomial, value}
 use Rattle.polynomial.specs.Rows.{Rows, Shaped, coefs, change, lessTimes, lessMultiple, subtractRows, rootRows}
 use Rattle.polynomial.proofs.Shape.{shaped-by}

@@ -9,13 +9,13 @@ use lib.ListN.{length, getD, take, drop, set, replicate, drop-of-length-le, leng
 use lib.Seq.{paste, drop-cons, length-take-le, getD-take, take-nil}
 use Rattle.words.specs.Word.{addW, subW}
 use Rattle.words.proofs.Fill.{fill-next, fill-ahead}
-use Rattle.ring.specs.Element.{Element, sum, difference, lower, product, reduce, inverse, held}
-use Rattle.ring.proofs.Table.{length-lower}
-use Rattle.ring.proofs.Lists.{length-zip, length-product}
-use Rattle.ring.proofs.Inverse.{length-inverse}
-use Rattle.ring.proofs.Zip.{zip-take}
-use Rattle.ring.proofs.Held.{held-take, held-length, held-same, zeros-held}
-use Rattle.ring.proofs.Narrow.{reduce-sum, reduce-held}
+use Rattle.galois.specs.Element.{Element, sum, difference, lower, product, reduce, inverse, held}
+use Rattle.galois.proofs.Table.{length-lower}
+use Rattle.galois.proofs.Lists.{length-zip, length-product}
+use Rattle.galois.proofs.Inverse.{length-inverse}
+use Rattle.galois.proofs.Zip.{zip-take}
+use Rattle.galois.proofs.Held.{held-take, held-length, held-same, zeros-held}
+use Rattle.galois.proofs.Narrow.{reduce-sum, reduce-held}
 use Rattle.polynomial.specs.Polynomial.{Polynomial, value}
 use Rattle.polynomial.specs.Rows.{Rows, Shaped, coefs, change, lessTimes, lessMultiple, subtractRows, rootRows}
 use Rattle.polynomial.proofs.Change.{length-change, change-at, change-all}

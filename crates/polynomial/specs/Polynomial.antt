@@ -1,7 +1,7 @@
 -- Polynomials over the ring of a book, paper 01, "Ring, points, shares". Assumes nothing.
 use Prim.Native.Nat.{ℕ}
 use mathlib.Core.List.{List, [], _∷_}
-use Rattle.ring.specs.Element.{Element, zip, sum, lower, product, zeroE}
+use Rattle.galois.specs.Element.{Element, zip, sum, lower, product, zeroE}
 
 -- "A polynomial of degree at most t is t + 1 coefficients, free term first, each an element"
 abbrev pub Polynomial : Type 0

@@ -3,7 +3,7 @@ use mathlib.Core.Path.{_≡_}
 use mathlib.Core.List.{List, [], _∷_, map}
 use Prim.Native.Nat.{ℕ, zero, suc, _+_}
 use lib.ListN.{length, take, replicate}
-use Rattle.ring.specs.Element.{Element, difference, lower, product, inverse, held, reduce}
+use Rattle.galois.specs.Element.{Element, difference, lower, product, inverse, held, reduce}
 use Rattle.polynomial.specs.Polynomial.{Polynomial, value}
 
 abbrev pub Rows : Type 0

@@ -2,7 +2,7 @@
 ghost use mathlib.Core.Path.{_≡_};
 ghost use Prim.Native.Nat.{_+_, _≤_};
 ghost use lib.ListN.{take};
-ghost use Rattle.ring.specs.Element.{held, lower, point};
+ghost use Rattle.galois.specs.Element.{held, lower, point};
 ghost use Rattle.polynomial.specs.Polynomial.{value};
 ghost use Rattle.polynomial.specs.Rows.{Shaped, coefs, subtractRows, rootRows, extendRows, reduceRows};
 

@@ -12,9 +12,9 @@ use Rattle.words.specs.Params.{paramsOk}
 use Rattle.words.specs.Refusal.{first}
 use Rattle.words.proofs.Refusal.{first-left, first-right, unless-held}
 use Rattle.words.proofs.InRange.{InRange, ok-range}
-use Rattle.ring.specs.Element.{Element, held}
+use Rattle.galois.specs.Element.{Element, held}
 use Rattle.ring.specs.Calls.{paramsFault, lengthFault, widthFault, operandFault, operandsFault}
-use Rattle.ring.proofs.Held.{held-take}
+use Rattle.galois.proofs.Held.{held-take}
 
 -- a call with no fault
 pub record Clear (p : Params) (a b : List ℕ) (n : ℕ) : Type 0 where

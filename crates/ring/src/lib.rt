@@ -5,8 +5,8 @@ ghost use mathlib.Core.List.{_∷_, [], _++_};
 ghost use Prim.Native.Nat.{ℕ, _+_, _-_, _^_, _≤_};
 ghost use lib.Dec.{ltb};
 ghost use lib.ListN.{length, take, drop, getD};
-ghost use Rattle.ring.specs.Element.{zip, sum, difference, held, lower, downW, plusW, addScaled, product, point, reduce, inverse};
-ghost use Rattle.ring.specs.Inversion.{fermat, newtons};
+ghost use Rattle.galois.specs.Element.{zip, sum, difference, held, lower, downW, plusW, addScaled, product, point, reduce, inverse};
+ghost use Rattle.galois.specs.Inversion.{fermat, newtons};
 ghost use Rattle.ring.specs.Calls.{operandFault, operandsFault};
 ghost use Rattle.words.specs.Refusal.{kept};
 

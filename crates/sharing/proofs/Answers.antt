@@ -8,8 +8,8 @@ use native.Mathlib.Decide.{decLe}
 use native.Mathlib.Omega.{arith}
 use lib.ListN.{length, getD, replicate}
 use Rattle.words.specs.declared.Params.{Params}
-use Rattle.ring.specs.Element.{Element, zeroE, held}
-use Rattle.ring.proofs.Held.{zeros-held}
+use Rattle.galois.specs.Element.{Element, zeroE, held}
+use Rattle.galois.proofs.Held.{zeros-held}
 use Rattle.codewords.specs.Codeword.{Share, Polynomial, errorSet, codeword}
 use Rattle.codewords.specs.WellFormed.{IsPoly}
 use Rattle.codewords.proofs.Unique.{codeword-sound}

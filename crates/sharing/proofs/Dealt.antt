@@ -6,7 +6,7 @@ use native.Mathlib.Nat.{not-suc-le-zero, le-of-suc-le-suc, zero-mul, add-zero}
 use native.Mathlib.Omega.{arith}
 use lib.ListN.{length, take, drop, length-append}
 use lib.Seq.{take-at, drop-append-add}
-use Rattle.ring.specs.Element.{point}
+use Rattle.galois.specs.Element.{point}
 use Rattle.polynomial.specs.Polynomial.{Polynomial, value}
 use Rattle.codewords.specs.Codeword.{Share}
 use Rattle.codewords.proofs.Value.{Rows, value-element}

@@ -16,7 +16,7 @@ use Rattle.words.specs.declared.Params.{Params}
 use Rattle.words.proofs.InRange.{InRange}
 use Rattle.algebra.specs.Shares.{All}
 use Rattle.algebra.proofs.Shares.{all-map}
-use Rattle.ring.specs.Element.{Element, sum, product, lower}
+use Rattle.galois.specs.Element.{Element, sum, product, lower}
 use Rattle.codewords.specs.Codeword.{Share, Polynomial, errorSet}
 use Rattle.codewords.specs.WellFormed.{IsElement, IsPoly}
 use Rattle.codewords.proofs.ErrorSet.{ones-errors}

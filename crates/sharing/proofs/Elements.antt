@@ -8,8 +8,8 @@ use native.Mathlib.Omega.{arith}
 use lib.ListN.{length, take, drop, getD, length-map, length-drop}
 use lib.Seq.{take-take, drop-drop, length-take-le}
 use Rattle.algebra.specs.Shares.{All}
-use Rattle.ring.specs.Element.{Element, held, zeroE}
-use Rattle.ring.proofs.Held.{held-take}
+use Rattle.galois.specs.Element.{Element, held, zeroE}
+use Rattle.galois.proofs.Held.{held-take}
 use Rattle.polynomial.specs.Rows.{Rows}
 use Rattle.sharing.specs.Dealing.{elementsOf}
 

@@ -10,13 +10,13 @@ use lib.ListN.{length, take, drop, length-replicate}
 use Rattle.words.specs.Word.{addW}
 use Rattle.algebra.specs.Poly.{eval}
 use Rattle.algebra.proofs.Ring.{mul-zero}
-use Rattle.ring.specs.Element.{Element, zip, sum, lower, product, zeroE, point, reduce, held}
-use Rattle.ring.proofs.Galois.{GR}
-use Rattle.ring.proofs.Table.{length-lower}
-use Rattle.ring.proofs.Lists.{toList, ofList, length-toList, length-product, product-of, zero-of, of-zero}
-use Rattle.ring.proofs.Points.{length-point}
-use Rattle.ring.proofs.Held.{held-take, zeros-held, sum-held}
-use Rattle.ring.proofs.Narrow.{reduce-held}
+use Rattle.galois.specs.Element.{Element, zip, sum, lower, product, zeroE, point, reduce, held}
+use Rattle.galois.proofs.Galois.{GR}
+use Rattle.galois.proofs.Table.{length-lower}
+use Rattle.galois.proofs.Lists.{toList, ofList, length-toList, length-product, product-of, zero-of, of-zero}
+use Rattle.galois.proofs.Points.{length-point}
+use Rattle.galois.proofs.Held.{held-take, zeros-held, sum-held}
+use Rattle.galois.proofs.Narrow.{reduce-held}
 use Rattle.polynomial.specs.Polynomial.{Polynomial, value}
 use Rattle.codewords.proofs.Find.{fixed}
 use Rattle.codewords.proofs.Value.{Rows, polyOf, value-of, value-element}

@@ -11,9 +11,9 @@ use lib.Seq.{take-at, drop-at}
 use borrow.Author.Tests.{leb-true, ltb-true}
 use Rattle.words.specs.Word.{inWidth, allInWidth}
 use Rattle.words.proofs.Tests.{and-left, and-right, and-both}
-use Rattle.ring.specs.Element.{Element, sum, product, lower, point, same}
-use Rattle.ring.proofs.Elements.{same-refl}
-use Rattle.ring.proofs.Points.{length-point}
+use Rattle.galois.specs.Element.{Element, sum, product, lower, point, same}
+use Rattle.galois.proofs.Elements.{same-refl}
+use Rattle.galois.proofs.Points.{length-point}
 use Rattle.polynomial.specs.Polynomial.{Polynomial, value}
 use Rattle.codewords.specs.Codeword.{Share, when, differs, errorSet}
 use Rattle.codewords.proofs.Value.{Rows, value-element}

@@ -4,7 +4,7 @@ use mathlib.Core.List.{List, [], _∷_, _++_}
 use lib.ListN.{length, take, drop}
 use Rattle.words.specs.Refusal.{first}
 use Rattle.words.specs.declared.Params.{Params}
-use Rattle.ring.specs.Element.{Element, point}
+use Rattle.galois.specs.Element.{Element, point}
 use Rattle.ring.specs.Calls.{paramsFault, lengthFault, widthFault}
 use Rattle.polynomial.specs.Polynomial.{Polynomial, value}
 

@@ -4,7 +4,7 @@ use Prim.Native.Nat.{ℕ, zero, suc, _+_, _-_, _*_, _^_}
 use mathlib.Core.Bool.{not}
 use mathlib.Core.List.{List, [], _∷_, _++_}
 use lib.ListN.{take, drop}
-use Rattle.ring.specs.Element.{Element, same}
+use Rattle.galois.specs.Element.{Element, same}
 use Rattle.codewords.specs.Codeword.{Share, when}
 
 -- of the shares of all holders, one after another, those of the holders hs

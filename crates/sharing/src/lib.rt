@@ -7,7 +7,7 @@ ghost use Prim.Native.Nat.{_*_, _≤_};
 ghost use lib.ListN.{length, take};
 ghost use Rattle.words.specs.Params.{paramsOk};
 ghost use Rattle.words.specs.Refusal.{kept};
-ghost use Rattle.ring.specs.Element.{held, zeroE, lower, point};
+ghost use Rattle.galois.specs.Element.{held, zeroE, lower, point};
 ghost use Rattle.polynomial.specs.Polynomial.{value};
 ghost use Rattle.polynomial.specs.Rows.{coefs};
 ghost use Rattle.codewords.specs.WellFormed.{InWidth};

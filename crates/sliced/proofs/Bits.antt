@@ -5,7 +5,7 @@ use native.Mathlib.Nat.{zero-mul, one-mul, zero-div, div-div-eq-div-mul, pow-suc
 use native.Mathlib.Omega.{arith}
 use lib.Bits.{bitAnd, bitOr, bitXor, xor-shr, and-shr, or-shr, and-mod, or-mod, xor-add-and}
 use Rattle.words.specs.Word.{addW, negW, subW, mulW}
-use Rattle.ring.specs.Element.{downW, plusW}
+use Rattle.galois.specs.Element.{downW, plusW}
 use Rattle.sliced.specs.Lane.{under}
 
 -- bit i of a word

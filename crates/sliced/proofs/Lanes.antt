@@ -15,13 +15,13 @@ use Rattle.words.specs.Word.{addW, inWidth, allInWidth}
 use Rattle.words.proofs.Tests.{and-left, and-right, and-both}
 use Rattle.words.proofs.Width.{in-width-lt, lt-in-width, width-at}
 use Rattle.algebra.specs.Shares.{All}
-use Rattle.ring.specs.Element.{Element, zip, sum, product, lower, point, same, zeroE, held, downW, plusW, timesX}
-use Rattle.ring.proofs.Table.{passes, passes-at, length-lower}
-use Rattle.ring.proofs.Zip.{zip-take}
-use Rattle.ring.proofs.Held.{to-six, held-same, held-take, held-length}
-use Rattle.ring.proofs.Horner.{shift-take, turn-length}
-use Rattle.ring.proofs.Lists.{length-zip, width-reduce}
-use Rattle.ring.proofs.Points.{length-point, reduce-point}
+use Rattle.galois.specs.Element.{Element, zip, sum, product, lower, point, same, zeroE, held, downW, plusW, timesX}
+use Rattle.galois.proofs.Table.{passes, passes-at, length-lower}
+use Rattle.galois.proofs.Zip.{zip-take}
+use Rattle.galois.proofs.Held.{to-six, held-same, held-take, held-length}
+use Rattle.galois.proofs.Horner.{shift-take, turn-length}
+use Rattle.galois.proofs.Lists.{length-zip, width-reduce}
+use Rattle.galois.proofs.Points.{length-point, reduce-point}
 use Rattle.sliced.specs.Lane.{lane, plusLanes, downLane, plusLane, shiftLanes, horner, timesLanes}
 use Rattle.sliced.specs.Lane.{spreadLane, supportOf, under, packed, sliceOf, pointsOf}
 use Rattle.sliced.proofs.Bits.{bit, zero-bit, bit-cases, xor-bit, or-bit, down-bit, plus-bit}

@@ -12,8 +12,8 @@ use Rattle.words.specs.Word.{inWidth, allInWidth}
 use Rattle.words.proofs.Tests.{and-left, and-right, and-both}
 use Rattle.words.proofs.Width.{in-width-lt, lt-in-width}
 use Rattle.algebra.specs.Shares.{All}
-use Rattle.ring.specs.Element.{Element, zip, zeroE}
-use Rattle.ring.proofs.Lists.{length-zip}
+use Rattle.galois.specs.Element.{Element, zip, zeroE}
+use Rattle.galois.proofs.Lists.{length-zip}
 use Rattle.sliced.specs.Lane.{under, packed}
 use Rattle.sliced.proofs.Bits.{bit, zero-bit, under-low, under-high}
 

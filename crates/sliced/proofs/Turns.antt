@@ -10,9 +10,9 @@ use lib.ListN.{length, getD, take, drop, drop-of-length-le, length-map, length-t
 use lib.Seq.{drop-cons, getD-take, length-take-le, take-all}
 use Rattle.words.specs.Word.{allInWidth}
 use Rattle.algebra.specs.Shares.{All}
-use Rattle.ring.specs.Element.{Element, zip, zeroE, held}
-use Rattle.ring.proofs.Zip.{six-words}
-use Rattle.ring.proofs.Held.{to-six}
+use Rattle.galois.specs.Element.{Element, zip, zeroE, held}
+use Rattle.galois.proofs.Zip.{six-words}
+use Rattle.galois.proofs.Held.{to-six}
 use Rattle.sliced.specs.Lane.{lane, plusLane, shiftLanes, horner, supportOf, under, packed}
 use Rattle.sliced.proofs.Bits.{bit, bit-cases}
 use Rattle.sliced.proofs.Packed.{packed-width}

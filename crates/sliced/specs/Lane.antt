@@ -4,7 +4,7 @@ use Prim.Native.Nat.{ℕ, zero, suc, _+_, _-_, _*_, _/_, _%_, _^_}
 use mathlib.Core.List.{List, [], _∷_, map}
 use lib.Bits.{bitAnd, bitOr, bitXor}
 use lib.ListN.{take, getD}
-use Rattle.ring.specs.Element.{Element, zip, zeroE, held, lower, point}
+use Rattle.galois.specs.Element.{Element, zip, zeroE, held, lower, point}
 
 -- lane i: bit i of each of the first d words, an element of the field. No lane looks at what stands at d and above.
 unfoldable pub lane : ℕ → List ℕ → ℕ → Element

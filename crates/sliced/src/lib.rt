@@ -6,7 +6,7 @@ ghost use mathlib.Core.List.{_∷_};
 ghost use Prim.Native.Nat.{_-_, _*_, _/_, _%_, _^_, _≤_, _<_};
 ghost use lib.ListN.{length, getD};
 ghost use Rattle.words.specs.Word.{allInWidth};
-ghost use Rattle.ring.specs.Element.{zip, held, lower};
+ghost use Rattle.galois.specs.Element.{zip, held, lower};
 ghost use Rattle.sliced.specs.Lane.{lane, plusLanes, downLane, plusLane, timesLanes, spreadLane, supportOf, under, sliceOf, pointsOf};
 
 // Every lane.

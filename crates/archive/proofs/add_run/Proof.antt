@@ -8,7 +8,7 @@ use Prim.Native.Nat.{ℕ, _+_, _-_, _*_, _≤_, _<_}
 use lib.ListN.{length, drop, replicate}
 use denote.Ref.{now}
 use Rattle.words.specs.Word.{inWidth, allInWidth}
-use Rattle.ring.specs.Element.{Element, held}
+use Rattle.galois.specs.Element.{Element, held}
 use Rattle.bundle.specs.Contents.{wordsFrom}
 use Rattle.bundle.proofs.Contents.{words-count}
 use Rattle.archive.specs.Archive.{sumTo, every}

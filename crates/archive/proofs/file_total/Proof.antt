@@ -10,7 +10,7 @@ use borrow.Author.Tests.{not-true, not-false}
 use Rattle.words.specs.Refusal.{unless}
 use Rattle.words.proofs.InRange.{InRange}
 use Rattle.words.proofs.Refusal.{unless-yes, unless-no, kept-none}
-use Rattle.ring.specs.Element.{Element}
+use Rattle.galois.specs.Element.{Element}
 use Rattle.ring.proofs.Calls.{stored}
 use Rattle.records.specs.declared.Heading.{Heading}
 use Rattle.archive.specs.Archive.{runTotal, runInWidth, fileTotalFault}

@@ -7,7 +7,7 @@ use Prim.Native.Nat.{ℕ, _-_, _≤_, _<_}
 use lib.ListN.{length, length-set}
 use denote.Ref.{now}
 use Rattle.words.specs.Word.{inWidth}
-use Rattle.ring.specs.Element.{Element, held}
+use Rattle.galois.specs.Element.{Element, held}
 use Rattle.bundle.specs.Bundle.{filesOf}
 use Rattle.archive.specs.Archive.{runTotal, every, runInWidth}
 use Rattle.archive.proofs.Values.{filled, values-start, values-next, values-done}

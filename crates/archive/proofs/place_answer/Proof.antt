@@ -3,7 +3,7 @@ use borrow.Author.Needs.{needs}
 use mathlib.Core.Path.{_≡_, sym, ap, _∙_}
 use Prim.Native.Nat.{_+_, _-_}
 use denote.Ref.{now}
-use Rattle.ring.specs.Element.{zeroE, held}
+use Rattle.galois.specs.Element.{zeroE, held}
 use Rattle.sharing.specs.Opening.{Opening, faultOf, wrongOf, wordsOf as outputOf}
 use Rattle.archive.specs.Archive.{placeOpening, runOpening}
 use Rattle.archive.proofs.Pass.{place-run}

@@ -7,7 +7,7 @@ use lib.ListN.{length, drop, replicate}
 use lib.Seq.{length-front, length-take-le}
 use denote.Ref.{now}
 use borrow.Author.Tests.{not-true, not-false}
-use Rattle.ring.specs.Element.{Element, zeroE, held}
+use Rattle.galois.specs.Element.{Element, zeroE, held}
 use Rattle.codewords.specs.Codeword.{Share}
 use Rattle.level.specs.Shares.{sharesOf}
 use Rattle.sharing.specs.Opening.{Opening, faultOf, wrongOf, wordsOf as outputOf, answerTo}

@@ -8,7 +8,7 @@ use lib.ListN.{length}
 use denote.Ref.{now}
 use Rattle.words.specs.Word.{inWidth, allInWidth}
 use Rattle.words.proofs.InRange.{six}
-use Rattle.ring.specs.Element.{held, reduce}
+use Rattle.galois.specs.Element.{held, reduce}
 use Rattle.records.specs.Layout.{recordSize, headSize, jobSize, fileSize, orderSize}
 use Rattle.bundle.proofs.Accepted.{accepted, file-few}
 use Rattle.archive.specs.Archive.{sumTo, runTotal, every, runInWidth}

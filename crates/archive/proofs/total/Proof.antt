@@ -9,7 +9,7 @@ use lib.ListN.{length, getD, drop, replicate}
 use denote.Ref.{now}
 use Rattle.words.specs.Refusal.{kept}
 use Rattle.words.proofs.Refusal.{kept-some}
-use Rattle.ring.specs.Element.{Element}
+use Rattle.galois.specs.Element.{Element}
 use Rattle.bundle.specs.Bundle.{bundleFault, filesOf}
 use Rattle.fetch.specs.Fetch.{fileOf}
 use Rattle.bundle.proofs.Files.{files-are, refused-is}

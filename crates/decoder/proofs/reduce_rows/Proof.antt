@@ -6,8 +6,8 @@ use mathlib.Core.List.{map, []}
 use Prim.Native.Nat.{suc, _-_, _≤_, _<_}
 use lib.ListN.{getD, length}
 use lib.Seq.{paste, paste-zero}
-use Rattle.ring.specs.Element.{reduce}
-use Rattle.ring.proofs.Lists.{length-reduce}
+use Rattle.galois.specs.Element.{reduce}
+use Rattle.galois.proofs.Lists.{length-reduce}
 use Rattle.polynomial.specs.Rows.{Shaped}
 use Rattle.polynomial.proofs.Shape.{shaped-length, shaped-row}
 use Rattle.decoder.proofs.Rows.{shaped-set, reduce-turn, reduce-end}

@@ -4,7 +4,7 @@ use borrow.Author.Needs.{needs}
 use mathlib.Core.Path.{_≡_, _∙_, ap}
 use Prim.Native.Nat.{suc, _+_}
 use lib.ListN.{length}
-use Rattle.ring.specs.Element.{held, point}
+use Rattle.galois.specs.Element.{held, point}
 use Rattle.polynomial.specs.Polynomial.{value}
 use Rattle.polynomial.specs.Rows.{coefs}
 use Rattle.level.proofs.Rests.{residue-by}

@@ -1,8 +1,8 @@
 -- `polynomial::eval` meets its contract: the value in 64 bits, cut to k. Assumes nothing.
 use native.Mathlib.Omega.{arith}
 use mathlib.Core.Path.{_∙_}
-use Rattle.ring.specs.Element.{point}
-use Rattle.ring.proofs.Points.{length-point}
+use Rattle.galois.specs.Element.{point}
+use Rattle.galois.proofs.Points.{length-point}
 use Rattle.polynomial.proofs.Shape.{shaped-all}
 use Rattle.polynomial.proofs.OverRing.{narrow-value}
 use borrow.Author.Needs.{needs}

@@ -5,8 +5,8 @@ use mathlib.Core.Path.{_≡_}
 use Prim.Native.Nat.{_+_}
 use lib.ListN.{length, take}
 use lib.Seq.{length-take-le}
-use Rattle.ring.specs.Element.{point}
-use Rattle.ring.proofs.Points.{length-point}
+use Rattle.galois.specs.Element.{point}
+use Rattle.galois.proofs.Points.{length-point}
 use Rattle.polynomial.specs.Rows.{subtractRows}
 use Rattle.polynomial.proofs.OverRing.{value-length}
 use Rattle.polynomial.proofs.Shape.{shaped-all}

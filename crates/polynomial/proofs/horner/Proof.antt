@@ -6,9 +6,9 @@ use mathlib.Core.Path.{_≡_}
 use mathlib.Core.List.{[]}
 use Prim.Native.Nat.{_-_, _<_}
 use lib.ListN.{length, take, drop, getD}
-use Rattle.ring.specs.Element.{point, reduce}
-use Rattle.ring.proofs.Held.{word-good}
-use Rattle.ring.proofs.Points.{length-point}
+use Rattle.galois.specs.Element.{point, reduce}
+use Rattle.galois.proofs.Held.{word-good}
+use Rattle.galois.proofs.Points.{length-point}
 use Rattle.polynomial.specs.Polynomial.{value}
 use Rattle.polynomial.specs.Rows.{coefs}
 use Rattle.polynomial.proofs.Turns.{eval-none, eval-start, eval-turn, eval-end, eval-length}

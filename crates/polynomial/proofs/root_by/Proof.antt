@@ -9,7 +9,7 @@ use Prim.Native.Nat.{_-_, _≤_}
 use native.Mathlib.Numerals.{add-one}
 use lib.ListN.{length, getD, replicate}
 use lib.Seq.{paste}
-use Rattle.ring.specs.Element.{point}
+use Rattle.galois.specs.Element.{point}
 use Rattle.polynomial.specs.Rows.{lessTimes, rootRows}
 use Rattle.polynomial.proofs.Change.{length-change, change-paste}
 use Rattle.polynomial.proofs.Turns.{root-turn}

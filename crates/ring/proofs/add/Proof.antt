@@ -7,9 +7,9 @@ use Rattle.ring.proofs.Calls.{Clear, clear, stored}
 use Prim.Native.Nat.{ℕ}
 use Rattle.ring.specs.Calls.{operandsFault}
 use Rattle.words.specs.Word.{addW}
-use Rattle.ring.specs.Element.{sum, held}
-use Rattle.ring.proofs.Lists.{length-zip}
-use Rattle.ring.proofs.Held.{sum-held}
+use Rattle.galois.specs.Element.{sum, held}
+use Rattle.galois.proofs.Lists.{length-zip}
+use Rattle.galois.proofs.Held.{sum-held}
 use borrow.Author.Needs.{needs}
 use Rattle.ring.proofs.add.Statement.{statement}
 use Rattle.ring.proofs.add.Tie as tie

@@ -2,7 +2,7 @@
 use native.Mathlib.Omega.{arith}
 use mathlib.Core.Path.{_≡_, _∙_, sym}
 use lib.ListN.{length}
-use Rattle.ring.proofs.Held.{word-good, scaled-none, scaled-one}
+use Rattle.galois.proofs.Held.{word-good, scaled-none, scaled-one}
 use borrow.Author.Needs.{needs}
 use Rattle.ring.proofs.add_picked.Statement.{statement}
 use Rattle.ring.proofs.add_picked.Tie as tie

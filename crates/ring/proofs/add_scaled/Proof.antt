@@ -2,8 +2,8 @@
 use native.Mathlib.Omega.{arith}
 use mathlib.Core.Path.{_≡_, sym}
 use lib.ListN.{length}
-use Rattle.ring.specs.Element.{plusW}
-use Rattle.ring.proofs.Zip.{zip-six}
+use Rattle.galois.specs.Element.{plusW}
+use Rattle.galois.proofs.Zip.{zip-six}
 use borrow.Author.Needs.{needs}
 use Rattle.ring.proofs.add_scaled.Statement.{statement}
 use Rattle.ring.proofs.add_scaled.Tie as tie

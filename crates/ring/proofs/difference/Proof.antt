@@ -3,7 +3,7 @@ use native.Mathlib.Omega.{arith}
 use mathlib.Core.Path.{_≡_, sym}
 use lib.ListN.{length}
 use Rattle.words.specs.Word.{subW}
-use Rattle.ring.proofs.Zip.{zip-six}
+use Rattle.galois.proofs.Zip.{zip-six}
 use borrow.Author.Needs.{needs}
 use Rattle.ring.proofs.difference.Statement.{statement}
 use Rattle.ring.proofs.difference.Tie as tie

@@ -5,12 +5,12 @@ use mathlib.Core.Path.{_≡_, sym, ap, _∙_}
 use Prim.Native.Nat.{suc, _+_, _-_, _≤_}
 use lib.ListN.{length, take}
 use lib.Seq.{length-take-le}
-use Rattle.ring.specs.Element.{product, lower, reduce, held}
-use Rattle.ring.specs.Inversion.{fermat}
-use Rattle.ring.proofs.Table.{length-lower}
-use Rattle.ring.proofs.Lists.{length-product}
-use Rattle.ring.proofs.Inverse.{fermat-turn}
-use Rattle.ring.proofs.Held.{held-take, const-held}
+use Rattle.galois.specs.Element.{product, lower, reduce, held}
+use Rattle.galois.specs.Inversion.{fermat}
+use Rattle.galois.proofs.Table.{length-lower}
+use Rattle.galois.proofs.Lists.{length-product}
+use Rattle.galois.proofs.Inverse.{fermat-turn}
+use Rattle.galois.proofs.Held.{held-take, const-held}
 use Rattle.ring.proofs.fermat_by.Statement.{statement}
 use Rattle.ring.proofs.fermat_by.Tie as tie
 

@@ -5,13 +5,13 @@ use mathlib.Core.Path.{_≡_, refl, _∙_, sym}
 use Prim.Native.Nat.{_-_, _/_, _%_, _^_, _≤_}
 use lib.ListN.{length, take, drop, getD}
 use lib.Seq.{length-take-le}
-use Rattle.ring.specs.Element.{downW, plusW, lower, point, product}
-use Rattle.ring.proofs.Table.{length-lower}
-use Rattle.ring.proofs.Lists.{length-product}
-use Rattle.ring.proofs.Held.{held-same}
-use Rattle.ring.proofs.Bits.{point-at}
-use Rattle.ring.proofs.Points.{length-point}
-use Rattle.ring.proofs.Horner.{turn, turn-length, no-turn}
+use Rattle.galois.specs.Element.{downW, plusW, lower, point, product}
+use Rattle.galois.proofs.Table.{length-lower}
+use Rattle.galois.proofs.Lists.{length-product}
+use Rattle.galois.proofs.Held.{held-same}
+use Rattle.galois.proofs.Bits.{point-at}
+use Rattle.galois.proofs.Points.{length-point}
+use Rattle.galois.proofs.Horner.{turn, turn-length, no-turn}
 use Rattle.ring.proofs.horner_by_bits.Statement.{statement}
 use Rattle.ring.proofs.horner_by_bits.Tie as tie
 

@@ -5,11 +5,11 @@ use mathlib.Core.Path.{_≡_, refl, sym, _∙_}
 use Prim.Native.Nat.{_-_, _≤_}
 use lib.ListN.{length, take, drop, getD}
 use lib.Seq.{length-take-le, getD-take}
-use Rattle.ring.specs.Element.{downW, plusW, lower, product}
-use Rattle.ring.proofs.Table.{length-lower}
-use Rattle.ring.proofs.Lists.{length-product}
-use Rattle.ring.proofs.Held.{held-same}
-use Rattle.ring.proofs.Horner.{turn, turn-length, no-turn}
+use Rattle.galois.specs.Element.{downW, plusW, lower, product}
+use Rattle.galois.proofs.Table.{length-lower}
+use Rattle.galois.proofs.Lists.{length-product}
+use Rattle.galois.proofs.Held.{held-same}
+use Rattle.galois.proofs.Horner.{turn, turn-length, no-turn}
 use Rattle.ring.proofs.horner_by_words.Statement.{statement}
 use Rattle.ring.proofs.horner_by_words.Tie as tie
 

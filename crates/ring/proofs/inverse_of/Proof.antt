@@ -5,12 +5,12 @@ use mathlib.Core.Path.{_≡_, sym, ap, _∙_}
 use Prim.Native.Nat.{_-_}
 use lib.ListN.{length, take}
 use lib.Seq.{length-take-le}
-use Rattle.ring.specs.Element.{reduce, held}
-use Rattle.ring.specs.Inversion.{fermat, newtons}
-use Rattle.ring.proofs.Field.{length-fermat}
-use Rattle.ring.proofs.Inverse.{length-newtons, inverse-computed}
-use Rattle.ring.proofs.Held.{held-take, held-same}
-use Rattle.ring.proofs.Narrow.{reduce-held}
+use Rattle.galois.specs.Element.{reduce, held}
+use Rattle.galois.specs.Inversion.{fermat, newtons}
+use Rattle.galois.proofs.Field.{length-fermat}
+use Rattle.galois.proofs.Inverse.{length-newtons, inverse-computed}
+use Rattle.galois.proofs.Held.{held-take, held-same}
+use Rattle.galois.proofs.Narrow.{reduce-held}
 use Rattle.ring.proofs.inverse_of.Statement.{statement}
 use Rattle.ring.proofs.inverse_of.Tie as tie
 

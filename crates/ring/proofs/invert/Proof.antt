@@ -4,10 +4,10 @@ use mathlib.Core.Path.{_≡_, sym, _∙_}
 use Prim.Native.Nat.{ℕ}
 use lib.ListN.{length}
 use Rattle.words.proofs.Refusal.{kept-none, kept-some}
-use Rattle.ring.specs.Element.{inverse, held}
+use Rattle.galois.specs.Element.{inverse, held}
 use Rattle.ring.specs.Calls.{operandFault}
-use Rattle.ring.proofs.Inverse.{length-inverse}
-use Rattle.ring.proofs.Held.{held-take}
+use Rattle.galois.proofs.Inverse.{length-inverse}
+use Rattle.galois.proofs.Held.{held-take}
 use Rattle.ring.proofs.Calls.{Clear, clear, one-operand, stored}
 use borrow.Author.Needs.{needs}
 use Rattle.ring.proofs.invert.Statement.{statement}

@@ -2,7 +2,7 @@
 use native.Mathlib.Omega.{arith}
 use mathlib.Core.Path.{_≡_, sym}
 use lib.ListN.{length}
-use Rattle.ring.proofs.Held.{held-six}
+use Rattle.galois.proofs.Held.{held-six}
 use borrow.Author.Needs.{needs}
 use Rattle.ring.proofs.keep.Statement.{statement}
 use Rattle.ring.proofs.keep.Tie as tie

@@ -3,8 +3,8 @@ use mathlib.Core.Path.{_≡_, refl}
 use mathlib.Core.List.{List, [], _∷_}
 use Prim.Native.Nat.{ℕ, _≤_}
 use lib.ListN.{getD}
-use Rattle.ring.specs.Element.{held, lower}
-use Rattle.ring.proofs.Held.{to-six}
+use Rattle.galois.specs.Element.{held, lower}
+use Rattle.galois.proofs.Held.{to-six}
 use borrow.Author.Needs.{needs}
 use native.Mathlib.Omega.{arith}
 use Rattle.ring.proofs.lower_of.Statement.{statement}

@@ -6,10 +6,10 @@ use Rattle.words.proofs.Refusal.{kept-none, kept-some}
 use Rattle.ring.proofs.Calls.{Clear, clear, stored}
 use Prim.Native.Nat.{ℕ}
 use Rattle.ring.specs.Calls.{operandsFault}
-use Rattle.ring.specs.Element.{product, lower, held}
-use Rattle.ring.proofs.Table.{length-lower}
-use Rattle.ring.proofs.Lists.{length-product}
-use Rattle.ring.proofs.Held.{held-take}
+use Rattle.galois.specs.Element.{product, lower, held}
+use Rattle.galois.proofs.Table.{length-lower}
+use Rattle.galois.proofs.Lists.{length-product}
+use Rattle.galois.proofs.Held.{held-take}
 use borrow.Author.Needs.{needs}
 use Rattle.ring.proofs.multiply.Statement.{statement}
 use Rattle.ring.proofs.multiply.Tie as tie

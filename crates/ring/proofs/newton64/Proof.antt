@@ -3,7 +3,7 @@ use native.Mathlib.Omega.{arith}
 use mathlib.Core.Path.{_≡_}
 use Prim.Native.Nat.{ℕ, _≤_}
 use Rattle.words.proofs.InRange.{six}
-use Rattle.ring.specs.Element.{held}
+use Rattle.galois.specs.Element.{held}
 use Rattle.ring.proofs.newton64.Statement.{statement}
 use Rattle.ring.proofs.newton64.Tie as tie
 

@@ -8,12 +8,12 @@ use native.Mathlib.Nat.{pow-suc}
 use lib.ListN.{length, take}
 use lib.Seq.{length-take-le}
 use Rattle.words.specs.Word.{subW}
-use Rattle.ring.specs.Element.{Element, product, lower, difference, held}
-use Rattle.ring.specs.Inversion.{newton, newtons, twoE}
-use Rattle.ring.proofs.Table.{length-lower}
-use Rattle.ring.proofs.Lists.{length-product, length-zip}
-use Rattle.ring.proofs.Inverse.{length-two, length-newtons}
-use Rattle.ring.proofs.Held.{held-take, held-same, const-held, difference-held}
+use Rattle.galois.specs.Element.{Element, product, lower, difference, held}
+use Rattle.galois.specs.Inversion.{newton, newtons, twoE}
+use Rattle.galois.proofs.Table.{length-lower}
+use Rattle.galois.proofs.Lists.{length-product, length-zip}
+use Rattle.galois.proofs.Inverse.{length-two, length-newtons}
+use Rattle.galois.proofs.Held.{held-take, held-same, const-held, difference-held}
 use Rattle.ring.proofs.newton_by.Statement.{statement}
 use Rattle.ring.proofs.newton_by.Tie as tie
 

@@ -1,6 +1,6 @@
 -- `ring::point` meets its contract: it computes. Assumes nothing.
 use mathlib.Core.Path.{refl}
-use Rattle.ring.specs.Element.{point}
+use Rattle.galois.specs.Element.{point}
 use Rattle.ring.proofs.point.Statement.{statement}
 use Rattle.ring.proofs.point.Tie as tie
 

@@ -3,7 +3,7 @@ use native.Mathlib.Omega.{arith}
 use mathlib.Core.Path.{_≡_, _∙_}
 use lib.ListN.{length, take}
 use lib.Seq.{length-take-le}
-use Rattle.ring.proofs.Narrow.{narrow-product}
+use Rattle.galois.proofs.Narrow.{narrow-product}
 use borrow.Author.Needs.{needs}
 use Rattle.ring.proofs.product.Statement.{statement}
 use Rattle.ring.proofs.product.Tie as tie

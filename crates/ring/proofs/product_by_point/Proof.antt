@@ -3,9 +3,9 @@ use native.Mathlib.Omega.{arith}
 use mathlib.Core.Path.{_≡_, _∙_}
 use lib.ListN.{length, take}
 use lib.Seq.{length-take-le}
-use Rattle.ring.specs.Element.{point}
-use Rattle.ring.proofs.Points.{length-point}
-use Rattle.ring.proofs.Narrow.{narrow-product}
+use Rattle.galois.specs.Element.{point}
+use Rattle.galois.proofs.Points.{length-point}
+use Rattle.galois.proofs.Narrow.{narrow-product}
 use borrow.Author.Needs.{needs}
 use Rattle.ring.proofs.product_by_point.Statement.{statement}
 use Rattle.ring.proofs.product_by_point.Tie as tie

@@ -2,7 +2,7 @@
 use native.Mathlib.Omega.{arith}
 use mathlib.Core.Path.{_≡_, sym}
 use lib.ListN.{length}
-use Rattle.ring.proofs.Narrow.{reduce-six}
+use Rattle.galois.proofs.Narrow.{reduce-six}
 use borrow.Author.Needs.{needs}
 use Rattle.ring.proofs.reduce.Statement.{statement}
 use Rattle.ring.proofs.reduce.Tie as tie

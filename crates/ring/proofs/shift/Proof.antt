@@ -3,8 +3,8 @@ use native.Mathlib.Omega.{arith}
 use mathlib.Core.Path.{_≡_}
 use Prim.Native.Nat.{_-_}
 use lib.ListN.{length, getD}
-use Rattle.ring.proofs.Held.{word-good}
-use Rattle.ring.proofs.Horner.{shift-first, shift-second}
+use Rattle.galois.proofs.Held.{word-good}
+use Rattle.galois.proofs.Horner.{shift-first, shift-second}
 use borrow.Author.Needs.{needs}
 use Rattle.ring.proofs.shift.Statement.{statement}
 use Rattle.ring.proofs.shift.Tie as tie

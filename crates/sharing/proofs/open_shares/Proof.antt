@@ -4,7 +4,7 @@ use mathlib.Core.Path.{_≡_, refl, sym, ap, _∙_}
 use Prim.Native.Nat.{ℕ, _≤_}
 use lib.ListN.{length}
 use Rattle.words.proofs.InRange.{range-ok}
-use Rattle.ring.specs.Element.{zeroE, held}
+use Rattle.galois.specs.Element.{zeroE, held}
 use Rattle.ring.proofs.Calls.{stored}
 use Rattle.level.specs.Shares.{sharesOf}
 use Rattle.sharing.specs.Opening.{Opening, declines, faultOf, wrongOf, wordsOf, answerTo, lent, lentFault, opening}

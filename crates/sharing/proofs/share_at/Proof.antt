@@ -4,7 +4,7 @@ use mathlib.Core.Path.{_≡_, _∙_}
 use Prim.Native.Nat.{ℕ, _*_, _≤_}
 use lib.ListN.{length}
 use Rattle.words.proofs.InRange.{six}
-use Rattle.ring.specs.Element.{held, lower}
+use Rattle.galois.specs.Element.{held, lower}
 use Rattle.sharing.proofs.share_at.Statement.{statement}
 use Rattle.sharing.proofs.share_at.Tie as tie
 

@@ -4,8 +4,8 @@ use native.Mathlib.Omega.{arith}
 use mathlib.Core.Path.{_≡_, _∙_}
 use Prim.Native.Nat.{_-_, _<_, _≤_}
 use native.Mathlib.Nat.{mul-le-mul-right}
-use Rattle.ring.specs.Element.{held, point}
-use Rattle.ring.proofs.Points.{length-point}
+use Rattle.galois.specs.Element.{held, point}
+use Rattle.galois.proofs.Points.{length-point}
 use Rattle.sharing.proofs.Elements.{elementsFrom}
 use Rattle.sharing.proofs.Horner.{above, horner-start, horner-turn, horner-end}
 use Rattle.sharing.proofs.share_by.Statement.{statement}

@@ -8,8 +8,8 @@ use native.Mathlib.Nat.{zero-mul, mul-le-mul-right, lt-of-mul-lt-mul-right}
 use lib.ListN.{length, take, drop}
 use lib.Seq.{paste, paste-zero}
 use Rattle.words.proofs.Fill.{fill-chunk, fill-all}
-use Rattle.ring.specs.Element.{point}
-use Rattle.ring.proofs.Held.{held-take}
+use Rattle.galois.specs.Element.{point}
+use Rattle.galois.proofs.Held.{held-take}
 use Rattle.polynomial.specs.Polynomial.{Polynomial, value}
 use Rattle.codewords.proofs.Value.{Rows}
 use Rattle.sharing.specs.Dealing.{elementsOf, dealtFrom, dealing, dealt}

@@ -3,7 +3,7 @@ use borrow.Author.Needs.{needs}
 use native.Mathlib.Omega.{arith}
 use mathlib.Core.Path.{_≡_, sym}
 use lib.ListN.{length}
-use Rattle.ring.proofs.Zip.{zip-six}
+use Rattle.galois.proofs.Zip.{zip-six}
 use Rattle.sliced.specs.Lane.{plusLane}
 use Rattle.sliced.proofs.add_scaled.Statement.{statement}
 use Rattle.sliced.proofs.add_scaled.Tie as tie

@@ -4,7 +4,7 @@ use native.Mathlib.Omega.{arith}
 use mathlib.Core.Path.{_≡_, sym}
 use lib.Bits.{bitXor}
 use lib.ListN.{length}
-use Rattle.ring.proofs.Zip.{zip-six}
+use Rattle.galois.proofs.Zip.{zip-six}
 use Rattle.sliced.specs.Lane.{plusLanes}
 use Rattle.sliced.proofs.plus.Statement.{statement}
 use Rattle.sliced.proofs.plus.Tie as tie

@@ -5,7 +5,7 @@ use mathlib.Core.Path.{_≡_}
 use mathlib.Core.List.{map}
 use Prim.Native.Nat.{_≤_}
 use lib.ListN.{take, drop}
-use Rattle.ring.specs.Element.{point}
+use Rattle.galois.specs.Element.{point}
 use Rattle.sliced.specs.Lane.{packed, pointsOf}
 use Rattle.sliced.proofs.Lanes.{point-bits}
 use Rattle.sliced.proofs.Turns.{packed-start, packed-turn, packed-room}

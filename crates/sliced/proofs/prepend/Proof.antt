@@ -6,7 +6,7 @@ use Prim.Native.Nat.{ℕ, _^_, _≤_, _<_}
 use native.Mathlib.Nat.{le-of-suc-le-suc}
 use lib.ListN.{length, getD}
 use Rattle.words.proofs.Width.{width-at}
-use Rattle.ring.proofs.Zip.{zip-six}
+use Rattle.galois.proofs.Zip.{zip-six}
 use Rattle.sliced.specs.Lane.{under}
 use Rattle.sliced.proofs.prepend.Statement.{statement}
 use Rattle.sliced.proofs.prepend.Tie as tie

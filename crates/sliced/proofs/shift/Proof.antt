@@ -4,7 +4,7 @@ use native.Mathlib.Omega.{arith}
 use mathlib.Core.Path.{_≡_, sym}
 use Prim.Native.Nat.{ℕ, _-_, _≤_, _<_}
 use lib.ListN.{length, getD}
-use Rattle.ring.proofs.Zip.{zip-shifted}
+use Rattle.galois.proofs.Zip.{zip-shifted}
 use Rattle.sliced.specs.Lane.{downLane}
 use Rattle.sliced.proofs.Lanes.{low-bit}
 use Rattle.sliced.proofs.shift.Statement.{statement}

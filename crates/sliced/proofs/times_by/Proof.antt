@@ -4,7 +4,7 @@ use native.Mathlib.Omega.{arith}
 use mathlib.Core.Path.{_≡_, _∙_, ap}
 use Prim.Native.Nat.{_≤_}
 use lib.ListN.{length, take, drop}
-use Rattle.ring.specs.Element.{held}
+use Rattle.galois.specs.Element.{held}
 use Rattle.sliced.specs.Lane.{horner, timesLanes}
 use Rattle.sliced.proofs.Turns.{horner-start, horner-turn}
 use Rattle.sliced.proofs.times_by.Statement.{statement}

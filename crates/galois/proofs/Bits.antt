@@ -7,9 +7,9 @@ use native.Mathlib.Nat.{div-div-eq-div-mul, div-lt-iff-lt-mul, pow-suc, pow-succ
 use native.Mathlib.Omega.{arith}
 use lib.ListN.{getD}
 use lib.Seq.{take-all}
-use Rattle.ring.specs.Element.{Element, zeroE, point, held}
-use Rattle.ring.proofs.Points.{length-point, point-zero}
-use Rattle.ring.proofs.Held.{zeros-after}
+use Rattle.galois.specs.Element.{Element, zeroE, point, held}
+use Rattle.galois.proofs.Points.{length-point, point-zero}
+use Rattle.galois.proofs.Held.{zeros-after}
 
 pub point-at : (d i j : ℕ) → j < d → getD (point d i) j 0 ≡ i / 2 ^ j % 2
 unfolding point

@@ -18,9 +18,9 @@ use denote.Laws.{Is}
 use borrow.Author.Needs.{elem-fits}
 use Rattle.words.specs.Word.{addW, negW, subW, mulW}
 use Rattle.words.proofs.Mod.{mods}
-use Rattle.ring.specs.Element.{Element, zeroE, zip, sum, difference, held, lower, downW, plusW, addScaled}
-use Rattle.ring.proofs.Lists.{length-zip}
-use Rattle.ring.proofs.Zip.{six-words, zip-append, zip-zeros, zip-by, zip-first}
+use Rattle.galois.specs.Element.{Element, zeroE, zip, sum, difference, held, lower, downW, plusW, addScaled}
+use Rattle.galois.proofs.Lists.{length-zip}
+use Rattle.galois.proofs.Zip.{six-words, zip-append, zip-zeros, zip-by, zip-first}
 
 pub held-take : (d : ℕ) (e : Element) → length e ≡ d → take d (held d e) ≡ e
 held-take d e h = take-at (take d e) (drop d (replicate 6 0)) d (length-take-le d e (le-of-eq (sym h))) ∙ take-all d e (le-of-eq h)

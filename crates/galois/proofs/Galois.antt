@@ -13,8 +13,8 @@ use Rattle.algebra.proofs.Ring.{one-mul, add-sub-left, fn-sub}
 use Rattle.algebra.proofs.Units.{Back, times, times-mul, times-times, times-kills, newton-times, unit-of-image}
 use Rattle.algebra.proofs.Vec.{Vec, nil, cons, vhead, vtail, vmap, map-map, map-id}
 use Rattle.algebra.proofs.Extension.{Extension, vneg, pad, scale, scale-zero, ext-times, ext-map, ext-back, map-neg}
-use Rattle.ring.specs.Element.{lower}
-use Rattle.ring.proofs.Zmod.{Word, word, word-ext, word-of, Z, remainder, times-val, char, scaled, times-back, back-remainder}
+use Rattle.galois.specs.Element.{lower}
+use Rattle.galois.proofs.Zmod.{Word, word, word-ext, word-of, Z, remainder, times-val, char, scaled, times-back, back-remainder}
 
 -- words of k bits
 abbrev pub Zk : ℕ → CommRing

@@ -9,10 +9,10 @@ use native.Mathlib.Omega.{arith}
 use lib.ListN.{length, getD, take, drop, drop-of-length-le}
 use lib.Seq.{drop-cons, getD-take, length-take-le}
 use Rattle.words.specs.Word.{subW}
-use Rattle.ring.specs.Element.{Element, zeroE, zip, downW, plusW, addScaled, timesX, product, held, lower}
-use Rattle.ring.proofs.Table.{length-lower}
-use Rattle.ring.proofs.Zip.{zip-take, zip-short, zip-six, zip-shifted}
-use Rattle.ring.proofs.Held.{held-take, to-six, row-first, row-second, down-one, down-none}
+use Rattle.galois.specs.Element.{Element, zeroE, zip, downW, plusW, addScaled, timesX, product, held, lower}
+use Rattle.galois.proofs.Table.{length-lower}
+use Rattle.galois.proofs.Zip.{zip-take, zip-short, zip-six, zip-shifted}
+use Rattle.galois.proofs.Held.{held-take, to-six, row-first, row-second, down-one, down-none}
 
 -- X times an element, over six words
 pub shift-take : (k d : ℕ) (l r : Element) → length l ≡ d → 1 ≤ d → d ≤ length r

@@ -8,7 +8,7 @@ use lib.Dec.{eqb}
 use lib.ListN.{length}
 use borrow.Author.Tests.{eqb-true}
 use Rattle.words.proofs.Tests.{and-left, and-right}
-use Rattle.ring.specs.Element.{lower}
+use Rattle.galois.specs.Element.{lower}
 
 -- the test passes at the c numbers from i on
 unfoldable pub passes : (ℕ → Bool) → ℕ → ℕ → Bool

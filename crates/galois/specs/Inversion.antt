@@ -2,7 +2,7 @@
 use Prim.Native.Nat.{ℕ, zero, suc, _-_}
 use mathlib.Core.List.{_∷_}
 use lib.ListN.{take, replicate}
-use Rattle.ring.specs.Element.{Element, lower, difference, product, oneE}
+use Rattle.galois.specs.Element.{Element, lower, difference, product, oneE}
 
 -- y starts at one, and is (y a)² modulo two n times: a^(2^(n + 1) - 2)
 unfoldable pub fermat : ℕ → Element → ℕ → Element

@@ -20,9 +20,9 @@ use Rattle.algebra.specs.Ring.{CommRing}
 use Rattle.algebra.proofs.Ring.{mul-neg}
 use Rattle.algebra.proofs.Vec.{Vec, nil, cons, vmap, vzip, push, last, zip-map}
 use Rattle.algebra.proofs.Extension.{vadd, vneg, scale, pad, unit, shift, act, vadd-comm, add-scaled, map-add, map-neg}
-use Rattle.ring.specs.Element.{Element, zip, sum, difference, downW, timesX, plusW, addScaled, product, zeroE, oneE, reduce}
-use Rattle.ring.proofs.Zmod.{Word, word, word-ext, word-of}
-use Rattle.ring.proofs.Galois.{Zk, Galois, rho, vec, lowW, low, pow-dvd, raise, halve, doubleW}
+use Rattle.galois.specs.Element.{Element, zip, sum, difference, downW, timesX, plusW, addScaled, product, zeroE, oneE, reduce}
+use Rattle.galois.proofs.Zmod.{Word, word, word-ext, word-of}
+use Rattle.galois.proofs.Galois.{Zk, Galois, rho, vec, lowW, low, pow-dvd, raise, halve, doubleW}
 
 abbrev pub toList : {m n : ℕ} → Vec (Word m) n → Element
 toList nil = []

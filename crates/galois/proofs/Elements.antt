@@ -14,9 +14,9 @@ use lib.ListN.{length}
 use borrow.Author.Tests.{eqb-true, eq-eqb}
 use Rattle.words.proofs.Tests.{bool-cases, and-left, and-right, and-both}
 use Rattle.algebra.proofs.Vec.{Vec, nil, cons}
-use Rattle.ring.specs.Element.{Element, reduce, same, below, each, tuples, elements, firstSuch}
-use Rattle.ring.proofs.Zmod.{Word}
-use Rattle.ring.proofs.Lists.{toList, ofList, length-toList, to-of, reduce-to}
+use Rattle.galois.specs.Element.{Element, reduce, same, below, each, tuples, elements, firstSuch}
+use Rattle.galois.proofs.Zmod.{Word}
+use Rattle.galois.proofs.Lists.{toList, ofList, length-toList, to-of, reduce-to}
 
 -- the same words
 pub same-eq : (a b : Element) → same a b ≡ true → a ≡ b

@@ -10,11 +10,11 @@ use lib.Pow.{pow-pos, pow-lt}
 use lib.ListN.{length}
 use Rattle.words.specs.Word.{subW}
 use Rattle.algebra.specs.Ring.{Unit-of}
-use Rattle.ring.specs.Element.{lower, difference, product, zeroE, oneE, point, reduce, inverse}
-use Rattle.ring.proofs.Galois.{GR, modulus, low}
-use Rattle.ring.proofs.Lists.{toList, ofList, to-of, low-of, of-difference, zero-of, length-zip}
-use Rattle.ring.proofs.Field.{unit-of-odd, unit-of-apart}
-use Rattle.ring.proofs.Inverse.{inverse-unit}
+use Rattle.galois.specs.Element.{lower, difference, product, zeroE, oneE, point, reduce, inverse}
+use Rattle.galois.proofs.Galois.{GR, modulus, low}
+use Rattle.galois.proofs.Lists.{toList, ofList, to-of, low-of, of-difference, zero-of, length-zip}
+use Rattle.galois.proofs.Field.{unit-of-odd, unit-of-apart}
+use Rattle.galois.proofs.Inverse.{inverse-unit}
 
 pub length-point : (d i : ℕ) → length (point d i) ≡ d
 unfolding point

@@ -8,11 +8,11 @@ use lib.ListN.{length, getD, take}
 use lib.Seq.{take-all}
 use Rattle.words.specs.Word.{addW}
 use Rattle.words.proofs.Mod.{mod-narrow}
-use Rattle.ring.specs.Element.{Element, zeroE, zip, sum, lower, product, reduce, held}
-use Rattle.ring.proofs.Lists.{length-reduce, length-product, reduce-product}
-use Rattle.ring.proofs.Table.{length-lower}
-use Rattle.ring.proofs.Zip.{six-words}
-use Rattle.ring.proofs.Held.{zeros-after}
+use Rattle.galois.specs.Element.{Element, zeroE, zip, sum, lower, product, reduce, held}
+use Rattle.galois.proofs.Lists.{length-reduce, length-product, reduce-product}
+use Rattle.galois.proofs.Table.{length-lower}
+use Rattle.galois.proofs.Zip.{six-words}
+use Rattle.galois.proofs.Held.{zeros-after}
 
 -- words
 add-narrow : {j k : ℕ} → j ≤ k → (x y : ℕ) → addW k x y % 2 ^ j ≡ addW j x y

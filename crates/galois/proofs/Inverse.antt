@@ -17,18 +17,18 @@ use Rattle.algebra.specs.Ring.{Unit-of}
 use Rattle.algebra.proofs.Ring.{mul-zero, zero-mul, inverse-only}
 use Rattle.algebra.proofs.Vec.{Vec, nil, cons}
 use Rattle.algebra.proofs.Extension.{unit, pad, vadd, vadd-zero}
-use Rattle.ring.specs.Inversion.{fermat, twoE, newton, newtons}
-use Rattle.ring.specs.Element.{Element, lower, difference, product, zeroE, oneE, reduce, same, elements, inverse, held}
-use Rattle.ring.proofs.Zmod.{Word, word-ext}
-use Rattle.ring.proofs.Galois.{Zk, GR, modulus, low, newton-lift, step}
-use Rattle.ring.proofs.Table.{length-lower}
-use Rattle.ring.proofs.Lists.{toList, ofList, const-suc, length-toList, length-zip, length-product, length-reduce}
-use Rattle.ring.proofs.Lists.{of-to, to-of, low-of, of-reduce, reduce-to, width-to, zero-of, of-zero, one-of, of-one}
-use Rattle.ring.proofs.Lists.{product-of, of-product, of-difference, reduce-product, reduce-reduce, product-alike}
-use Rattle.ring.proofs.Elements.{same-eq, eq-same, elements-all, elements-only, first-passes, first-none, first-is}
-use Rattle.ring.proofs.Held.{held-take, held-length}
-use Rattle.ring.proofs.Narrow.{reduce-take, reduce-zeros, narrow-product}
-use Rattle.ring.proofs.Field.{length-fermat, fermat-inverse, one-not-zero, unit-of-odd}
+use Rattle.galois.specs.Inversion.{fermat, twoE, newton, newtons}
+use Rattle.galois.specs.Element.{Element, lower, difference, product, zeroE, oneE, reduce, same, elements, inverse, held}
+use Rattle.galois.proofs.Zmod.{Word, word-ext}
+use Rattle.galois.proofs.Galois.{Zk, GR, modulus, low, newton-lift, step}
+use Rattle.galois.proofs.Table.{length-lower}
+use Rattle.galois.proofs.Lists.{toList, ofList, const-suc, length-toList, length-zip, length-product, length-reduce}
+use Rattle.galois.proofs.Lists.{of-to, to-of, low-of, of-reduce, reduce-to, width-to, zero-of, of-zero, one-of, of-one}
+use Rattle.galois.proofs.Lists.{product-of, of-product, of-difference, reduce-product, reduce-reduce, product-alike}
+use Rattle.galois.proofs.Elements.{same-eq, eq-same, elements-all, elements-only, first-passes, first-none, first-is}
+use Rattle.galois.proofs.Held.{held-take, held-length}
+use Rattle.galois.proofs.Narrow.{reduce-take, reduce-zeros, narrow-product}
+use Rattle.galois.proofs.Field.{length-fermat, fermat-inverse, one-not-zero, unit-of-odd}
 
 -- `inverse` is an element
 pub inverse-element : (k d : ℕ) (a : Element) → (u : Vec (Word (2 ^ k)) d) × (toList u ≡ inverse k d a)

@@ -12,13 +12,13 @@ use Rattle.algebra.specs.Ring.{Unit-of, IsField}
 use Rattle.algebra.proofs.Ring.{sub-zero}
 use Rattle.algebra.proofs.Units.{fn-diff}
 use Rattle.algebra.proofs.Vec.{Vec, vhead}
-use Rattle.ring.specs.Inversion.{fermat}
-use Rattle.ring.specs.Element.{Element, lower, product, zeroE, oneE, reduce, same, elements}
-use Rattle.ring.proofs.Zmod.{Word}
-use Rattle.ring.proofs.Galois.{GR, modulus, low, unit-of-low}
-use Rattle.ring.proofs.Table.{passes, passes-at, length-lower}
-use Rattle.ring.proofs.Lists.{toList, ofList, length-toList, length-reduce, length-product, length-one, of-to, to-of, of-reduce, reduce-to, of-zero, of-one, of-product, product-same}
-use Rattle.ring.proofs.Elements.{same-eq, listed, every, every-at}
+use Rattle.galois.specs.Inversion.{fermat}
+use Rattle.galois.specs.Element.{Element, lower, product, zeroE, oneE, reduce, same, elements}
+use Rattle.galois.proofs.Zmod.{Word}
+use Rattle.galois.proofs.Galois.{GR, modulus, low, unit-of-low}
+use Rattle.galois.proofs.Table.{passes, passes-at, length-lower}
+use Rattle.galois.proofs.Lists.{toList, ofList, length-toList, length-reduce, length-product, length-one, of-to, to-of, of-reduce, reduce-to, of-zero, of-one, of-product, product-same}
+use Rattle.galois.proofs.Elements.{same-eq, listed, every, every-at}
 
 -- a is zero, or a^(2^d - 2) is its inverse modulo two
 unfoldable pub fieldAt : ℕ → Element → Bool

@@ -11,14 +11,14 @@ use lib.ListN.{length}
 use Rattle.algebra.specs.Ring.{DiscreteRing}
 use Rattle.algebra.proofs.Levels.{Split, Tower}
 use Rattle.algebra.proofs.Vec.{Vec, nil, cons}
-use Rattle.ring.specs.Element.{Element, lower, product, zeroE, oneE, same, elements, firstSuch, inverse}
-use Rattle.ring.proofs.Zmod.{Word, word-ext}
-use Rattle.ring.proofs.Galois.{GR, modulus, low, low-low, raise, low-raise, halve, double, double-inj, double-halve, low-double}
-use Rattle.ring.proofs.Table.{length-lower}
-use Rattle.ring.proofs.Lists.{toList, ofList, length-toList, toList-inj, of-to, one-of, product-of}
-use Rattle.ring.proofs.Elements.{same-eq, same-refl, eq-same, elements-all, elements-only, first-passes, first-same}
-use Rattle.ring.proofs.Field.{is-field}
-use Rattle.ring.proofs.Inverse.{inverse-element}
+use Rattle.galois.specs.Element.{Element, lower, product, zeroE, oneE, same, elements, firstSuch, inverse}
+use Rattle.galois.proofs.Zmod.{Word, word-ext}
+use Rattle.galois.proofs.Galois.{GR, modulus, low, low-low, raise, low-raise, halve, double, double-inj, double-halve, low-double}
+use Rattle.galois.proofs.Table.{length-lower}
+use Rattle.galois.proofs.Lists.{toList, ofList, length-toList, toList-inj, of-to, one-of, product-of}
+use Rattle.galois.proofs.Elements.{same-eq, same-refl, eq-same, elements-all, elements-only, first-passes, first-same}
+use Rattle.galois.proofs.Field.{is-field}
+use Rattle.galois.proofs.Inverse.{inverse-element}
 
 -- b stands for an inverse of u
 unfoldable pub inverts : (d k : ℕ) → GR d k .E → Element → Bool

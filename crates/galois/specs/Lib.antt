@@ -1,0 +1,2 @@
+pub mod Element
+pub mod Inversion
