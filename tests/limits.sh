@@ -1,5 +1,5 @@
 #!/usr/bin/env bash
-# What no theorem bounds: `open` lists its largest inputs within a stack of 256 KiB, and within a second each (the slowest takes 0.04).
+# What no theorem bounds: `open` lists its largest inputs within a stack of 256 KiB, and within a second each (the slowest takes 0.02).
 set -u
 cd "$(dirname "$0")/.." || exit 2
 program=${OPEN:-target/bin/open}
