@@ -216,7 +216,7 @@ pub extern "C" fn yikes_accept(bytes: &[u8]) -> u8
     let checked = bundle::check_bundle(bytes);
     match checked {
         Checked::Files(_) => 0,
-        Checked::Refused(c) => c,
+        Checked::Refused(fault) => fault,
     }
 }
 

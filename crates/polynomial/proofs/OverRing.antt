@@ -197,7 +197,7 @@ product-reduce k d dl dh a b l m =
     product-same k d (lower d) (length-lower d dl dh) a (reduce k b) a b l (length-reduce k b ∙ m) l m refl (of-reduce (le-refl k) d b)
 
 -- fewer bits of a value
-reduce-value : {j k : ℕ} → j ≤ k → (d : ℕ) → 2 ≤ d → d ≤ 6 → (cs : Polynomial) (x : Element) → All (λ c. length c ≡ d) cs → length x ≡ d
+pub reduce-value : {j k : ℕ} → j ≤ k → (d : ℕ) → 2 ≤ d → d ≤ 6 → (cs : Polynomial) (x : Element) → All (λ c. length c ≡ d) cs → length x ≡ d
     → reduce j (value k d cs x) ≡ value j d cs x
 unfolding value
 reduce-value {j} h d dl dh [] x l m = reduce-zeros j d

@@ -4,7 +4,7 @@
 use mathlib.Core.Path.{_≡_, refl, sym, _∙_, ap, ap₂}
 use mathlib.Core.List.{List, [], _∷_}
 use Prim.Native.Nat.{ℕ, _-_, _*_, _%_, _^_, _≤_, _<_}
-use native.Mathlib.Nat.{add-comm, le-refl}
+use native.Mathlib.Nat.{add-comm}
 use native.Mathlib.Omega.{arith}
 use lib.ListN.{length, take, drop, length-replicate}
 use Rattle.words.specs.Word.{addW}
@@ -18,9 +18,8 @@ use Rattle.galois.proofs.Points.{length-point}
 use Rattle.galois.proofs.Held.{held-take, zeros-held, sum-held}
 use Rattle.galois.proofs.Narrow.{reduce-held}
 use Rattle.polynomial.specs.Polynomial.{Polynomial, value}
-use Rattle.codewords.proofs.Find.{fixed}
-use Rattle.codewords.proofs.Value.{Rows, polyOf, value-of, value-element}
-use Rattle.codewords.proofs.Reduction.{value-reduce}
+use Rattle.polynomial.proofs.OverRing.{reduce-value}
+use Rattle.codewords.proofs.Value.{Rows, polyOf, value-of}
 use Rattle.sharing.specs.Dealing.{elementsOf}
 use Rattle.sharing.proofs.Elements.{held-cut, elementsFrom, from-none, from-more, from-all, from-rows}
 
@@ -93,8 +92,4 @@ pub narrow-value : {j k : ℕ} → j ≤ k → (d : ℕ) → 2 ≤ d → d ≤ 6
 narrow-value {j} {k} h d dl dh q rows i =
     let x = point d i in
     let lx : length x ≡ d = length-point d i in
-    reduce-held j d (value k d q x) (value-length k d dl dh x lx q rows) dh
-    ∙ ap (held d)
-    (sym (value-reduce d dl dh h q rows x lx)
-    ∙ value-reduce d dl dh (le-refl j) q rows x lx
-    ∙ fixed j d (value j d q x) (value-element d dl dh j q rows (record { holder = i; words = [] })))
+    reduce-held j d (value k d q x) (value-length k d dl dh x lx q rows) dh ∙ ap (held d) (reduce-value h d dl dh q x rows lx)
