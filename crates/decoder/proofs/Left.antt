@@ -1,4 +1,4 @@
--- A round's rows of what the polynomial leaves of the shares: as shares under the same holders, of d words and of six (`Left`); and that the
+-- A level's rows of what the polynomial leaves of the shares: as shares under the same holders, of d words and of six (`Left`); and that the
 -- ones that are not zero are those that differ from the polynomial. Assumes nothing.
 use mathlib.Core.Path.{_≡_, _∙_, ap}
 use mathlib.Core.List.{List, [], map}
@@ -21,10 +21,10 @@ use Rattle.level.specs.Shares.{shareAt, sharesOf, Sized, residueRows}
 use Rattle.level.proofs.Shares.{sized-at}
 use Rattle.level.proofs.Rests.{rest-row, rest-shares, rest-first, rest-length}
 use Rattle.decoder.specs.Residues.{Through, bitsOfAll}
-use Rattle.decoder.proofs.Arrays.{take-of, reword-of}
+use Rattle.decoder.proofs.Arrays.{reword-of}
 use Rattle.decoder.proofs.Compared.{leftSix, left-set, left-bits}
 
--- as much as the search needs of them
+-- as much as a level needs of them
 pub record Left (k d t m : ℕ) (p : Polynomial) (hs : List ℕ) (ys r : Rows) : Type 0 where
   pub long : length r ≡ 63
   pub first : take (suc t) r ≡ replicate (suc t) (zeroE 6)
@@ -37,7 +37,7 @@ pub record Left (k d t m : ℕ) (p : Polynomial) (hs : List ℕ) (ys r : Rows) :
   pub sized : Sized d (sharesOf d m hs r)
 
 module _ (k d t m : ℕ) (dl : 2 ≤ d) (dh : d ≤ 6) (hs : List ℕ) (ys q old r : Rows) (tm : suc t ≤ m) (mh : m ≤ 63)
-    (a : Holders d (sharesOf d m hs ys)) (w : InWidth k d (sharesOf d m hs ys)) (th : Through k d t (take (suc t) (sharesOf d m hs ys)) q)
+    (a : Holders d (sharesOf d m hs ys)) (w : InWidth k d (sharesOf d m hs ys)) (th : Through k d t (sharesOf d (suc t) hs ys) q)
     (lo : length old ≡ 63) (fo : take (suc t) old ≡ replicate (suc t) (zeroE 6))
     (er : r ≡ residueRows k d (coefs d (suc t) q) (suc t) (sharesOf d m hs ys) old) where
   abbrev P : Polynomial
@@ -58,7 +58,7 @@ module _ (k d t m : ℕ) (dl : 2 ≤ d) (dh : d ≤ 6) (hs : List ℕ) (ys q old
   -- the rows, as shares
   row-at : (i : ℕ) → i < m → getD r i [] ≡ held d (residue k d P (shareAt d hs ys i))
   row-at i h =
-      rest-row k d P (suc t) m hs ys old tm mo r er dl dh t (th .0) words fo (rw (take-of d hs ys (suc t) m tm) at (th .2)) i h
+      rest-row k d P (suc t) m hs ys old tm mo r er dl dh t (th .0) words fo (th .2) i h
 
   is-six : sharesOf 6 m hs r ≡ map (leftSix k d P) ss
   is-six =
@@ -71,7 +71,7 @@ module _ (k d t m : ℕ) (dl : 2 ≤ d) (dh : d ≤ 6) (hs : List ℕ) (ys q old
           held-length d (residue k d P s) (length-left s (sized-at d hs ys m i words h)) dh
 
   is-left : sharesOf d m hs r ≡ map (left k d P) ss
-  is-left = rest-shares k d P (suc t) m hs ys old tm mo r er dl dh t (th .0) words fo (rw (take-of d hs ys (suc t) m tm) at (th .2))
+  is-left = rest-shares k d P (suc t) m hs ys old tm mo r er dl dh t (th .0) words fo (th .2)
 
   holders-in-six : Holders 6 ss
   holders-in-six =

@@ -3,6 +3,7 @@ pub mod Compared
 pub mod Dropped
 pub mod Interpolated
 pub mod Left
+pub mod LevelFound
 pub mod Lowest
 pub mod Rows
 pub mod Sought

@@ -24,6 +24,7 @@ use Rattle.galois.proofs.Held.{zeros-after}
 use Rattle.codewords.specs.Codeword.{Share, Polynomial}
 use Rattle.codewords.specs.Residue.{residue, left, bitOf, AgreeBelow}
 use Rattle.codewords.specs.WellFormed.{IsElement}
+use Rattle.decoder.specs.Found.{lowestBit}
 use Rattle.decoder.specs.Residues.{bitsOf, bitsOfAll}
 
 -- two numbers together: zero, below a bit, and at a bit
@@ -157,10 +158,10 @@ module _ (k d : ℕ) (p : Polynomial) where
     pub set : All (λ s. All (λ b. b ≡ 0) (bitOf v (residue k d p s))) ss → ⊥
 
   pub lowest : (ss : List Share) → All (λ s. IsElement k d (residue k d p s)) ss → k ≤ 64 → 0 < leftBits ss →
-      Lowest ss (trailingZeros 64 (leftBits ss))
+      Lowest ss (lowestBit k d p ss)
   lowest ss h l z =
       let n = leftBits ss in
-      let v = trailingZeros 64 n in
+      let v = lowestBit k d p ss in
       let w : n < 2 ^ k = all-width ss h in
       let q : 2 ^ k ≤ 2 ^ 64 = pow-le-pow-right (omega arith) l in
       let t = trailing 64 n z (omega (arith, w, q)) in

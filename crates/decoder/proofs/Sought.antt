@@ -1,34 +1,33 @@
 -- What holds before each round of the search: the codeword asked for, with its error set, is that of the shares still in, with the holders
--- dropped so far added to its error set (`same`). It holds at the start; a round that jumps keeps it and drops at least one share (`jump`); one
--- that does not ends the search, with the codeword or with none. Assumes nothing.
+-- dropped so far added to its error set (`same`). It holds at the start; a level that names some of the wrong holders keeps it and drops
+-- at least one share, and any other ends the search, with the codeword or with none (`round`). Assumes nothing.
 use mathlib.Core.Path.{_≡_, refl, sym, _∙_, ap}
-use mathlib.Core.Bool.{Bool, true}
+use mathlib.Core.Bool.{Bool, true, false}
 use mathlib.Core.List.{List, [], _∷_, map}
 use mathlib.Core.Option.{Option, none, some, Option·map, Option·none-ne-some, Option·some-injective}
 use Prim.Native.Nat.{ℕ, zero, suc, _+_, _*_, _-_, _^_, _≤_, _<_}
 use native.Mathlib.Nat.{add-assoc, zero-add, pow-suc, pow-le-pow-right}
 use native.Mathlib.Omega.{arith}
-use lib.Count.{ones, trailingZeros}
+use lib.Count.{ones}
 use lib.ListN.{length, take, getD}
 use Rattle.algebra.specs.Shares.{All}
 use Rattle.algebra.proofs.Shares.{all-map}
 use Rattle.polynomial.specs.Rows.{Rows, coefs}
 use Rattle.codewords.specs.Codeword.{Share, Polynomial, differs, errors, errorSet, codeword}
-use Rattle.codewords.specs.Residue.{residue, left, bitOf, bitShare, atBit, without}
-use Rattle.codewords.specs.WellFormed.{IsElement, InWidth, Rising, Holders}
-use Rattle.codewords.proofs.Value.{rows-of}
+use Rattle.codewords.specs.Residue.{residue, bitOf, atBit, without}
+use Rattle.codewords.specs.WellFormed.{InWidth, Rising, Holders}
 use Rattle.codewords.proofs.Unique.{codeword-sound, codeword-complete}
-use Rattle.codewords.proofs.ErrorSet.{ones-errors}
 use Rattle.codewords.proofs.Without.{holders-without, rising-without, in-width-without, tally, errorSet-tally, tally-reword, tally-le, tally-without}
-use Rattle.codewords.proofs.Residue.{residue-element}
 use Rattle.codewords.proofs.Jump.{bit-differs-at, ones-at, enough-without, jump-none, jump-with, progress}
-use Rattle.level.specs.Level.{levelOf}
 use Rattle.level.specs.declared.Level.{Level}
-use Rattle.level.specs.declared.Level.the-variants.{Codeword, Nothing}
+use Rattle.level.specs.declared.Level.the-variants.{Codeword, Nothing as None}
 use Rattle.decoder.specs.Decoded.{answer, storedSecret}
-use Rattle.decoder.specs.Residues.{Through, bitsOfAll}
-use Rattle.decoder.proofs.Lowest.{Lowest, lowest}
-use Rattle.decoder.proofs.Compared.{no-errors}
+use Rattle.decoder.specs.Found.{lowestBit, levelFound}
+use Rattle.decoder.specs.Residues.{Through}
+use Rattle.decoder.specs.declared.Found.{Found}
+use Rattle.decoder.specs.declared.Found.the-variants.{Wrong, Nothing}
+use Rattle.decoder.proofs.LevelFound.{by-level, lowest-at}
+use Rattle.decoder.proofs.Lowest.{Lowest}
 
 -- bit i − 1 for holder i, and the set of all holders
 abbrev holderBit : ℕ → ℕ
@@ -81,44 +80,23 @@ pub record Sought (k d t e₀ : ℕ) (ss₀ : List Share) (e w : ℕ) (ss : List
 -- after a round that drops the shares of the holders in u
 pub record Jumped (k d t e₀ : ℕ) (ss₀ : List Share) (e w : ℕ) (ss : List Share) (u : ℕ) : Type 0 where
   pub within : ones u ≤ e
-  pub fits : w + u < 2 ^ 63
   pub drops : 0 < ones u
   pub next : Sought k d t e₀ ss₀ (e - ones u) (w + u) (without u ss)
 
--- what a level gave
-level-some : (d : ℕ) (bs : List Share) (o : Option Polynomial) (got : Level) (w : ℕ) → got ≡ levelOf d bs o → got ≡ Codeword w →
-    (g : Polynomial) × (o ≡ some g) × (w ≡ errorSet 1 d g bs)
-unfolding levelOf
-level-some d bs none got w l e = absurd (distinct (sym e ∙ l))
-  where
-    is : Level → Type 0
-    is (Codeword v) = Unit {0}
-    is Nothing = ⊥
+module _ (k d t e₀ : ℕ) (ss₀ : List Share) where
+  -- the search's answer, and what it stores where `old` stood
+  abbrev Ends : Level → List ℕ → List ℕ → Type 0
+  Ends r out old = (r ≡ answer k d ss₀ (codeword k d t e₀ ss₀)) × (out ≡ storedSecret d (codeword k d t e₀ ss₀) old)
 
-    distinct : Codeword w ≡ Nothing → ⊥
-    distinct x = mathlib.Core.Path.subst is x tt
-level-some d bs (some g) got w l e = (g, refl, ap set (sym e ∙ l))
-  where
-    set : Level → ℕ
-    set (Codeword v) = v
-    set Nothing = 0
+  -- what the search makes of a level's answer; the polynomial is in q
+  module _ (e w : ℕ) (ss : List Share) (q : Rows) where
+    abbrev After : ℕ → Bool → Type 0
+    After u true = (old : List ℕ) → Ends (Codeword (w + u)) (getD q 0 []) old
+    After u false = Jumped k d t e₀ ss₀ e w ss u
 
-level-none : (d : ℕ) (bs : List Share) (o : Option Polynomial) (got : Level) → got ≡ levelOf d bs o → got ≡ Nothing → o ≡ none
-unfolding levelOf
-level-none d bs none got l e = refl
-level-none d bs (some g) got l e = absurd (distinct (sym e ∙ l))
-  where
-    is : Level → Type 0
-    is (Codeword v) = ⊥
-    is Nothing = Unit {0}
-
-    distinct : Nothing ≡ Codeword (errorSet 1 d g bs) → ⊥
-    distinct x = mathlib.Core.Path.subst is x tt
-
--- bit v of what is left
-bits-left : (k d : ℕ) (p : Polynomial) (v : ℕ) (ss : List Share) → map (bitShare v) (map (left k d p) ss) ≡ map (atBit k d p v) ss
-bits-left k d p v [] = refl
-bits-left k d p v (s ∷ ss) = ap (λ (l : List Share). atBit k d p v s ∷ l) (bits-left k d p v ss)
+    abbrev pub Round : Found → Type 0
+    Round (Wrong u all) = (w + u < 2 ^ 63) × After u all
+    Round Nothing = (old : List ℕ) → Ends None old old
 
 module _ (d : ℕ) (dl : 2 ≤ d) (dh : d ≤ 6) (k t e₀ : ℕ) (ss₀ : List Share) where
   pub start : Holders d ss₀ → Rising ss₀ → InWidth k d ss₀ → suc t + 2 * e₀ ≤ length ss₀ → Sought k d t e₀ ss₀ e₀ 0 ss₀
@@ -155,66 +133,51 @@ module _ (d : ℕ) (dl : 2 ≤ d) (dh : d ≤ 6) (k t e₀ : ℕ) (ss₀ : List 
         go none y = refl
         go (some q) y = absurd (Option·none-ne-some (outcome q (errorSet k d q ss₀)) (sym y))
 
-    -- the number of shares that differ
-    ones-of : (p : Polynomial) → ones (errorSet k d p ss) ≡ errors k d p ss
-    ones-of p = ones-errors k d p ss (all-map (λ s x. x .0) ss (r .holders .0)) (r .holders .1)
-
-    pub sum-fits : (p : Polynomial) → w + errorSet k d p ss < 2 ^ 63
-    sum-fits p = omega (arith, r .fits, errorSet-le k d p ss)
-
     module _ (q : Rows) (th : Through k d t (take (suc t) ss) q) where
       abbrev P : Polynomial
       P = coefs d (suc t) q
 
       -- few enough differ
-      pub ends : (set : ℕ) → set ≡ errorSet k d P ss → ones set ≤ e → (old : List ℕ) →
-          (Codeword (w + set) ≡ answer k d ss₀ (codeword k d t e₀ ss₀)) × (getD q 0 [] ≡ storedSecret d (codeword k d t e₀ ss₀) old)
+      ends : errors k d P ss ≤ e → Round k d t e₀ ss₀ e w ss q (Wrong (errorSet k d P ss) true)
       unfolding answer storedSecret
-      ends set es h old =
-          let c = codeword-complete d dl dh k t e ss P (r .holders) (r .enough) (th .0) (rw (es, ones-of P) at h) in
-          let f = found-some P c in
-          rw (f .0) (ap Codeword (ap (λ n. w + n) es ∙ sym (f .1)), th .1)
+      ends h =
+          let f = found-some P (codeword-complete d dl dh k t e ss P (r .holders) (r .enough) (th .0) h) in
+          (omega (arith, r .fits, errorSet-le k d P ss), λ old. rw (f .0) (ap Codeword (sym (f .1)), th .1))
 
       -- too many differ
-      module _ (kh : k ≤ 64) (set : ℕ) (es : set ≡ errorSet k d P ss)
-          (h : e < ones set) (bits : ℕ) (eb : bits ≡ bitsOfAll (map (left k d P) ss)) where
-        residues : All (λ s. IsElement k d (residue k d P s)) ss
-        residues = all-map (λ s x. residue-element d dl dh k P (rows-of k d t P (th .0)) s (x .0)) ss (r .width)
-
-        some-bits : 0 < bitsOfAll (map (left k d P) ss)
-        some-bits = go (bitsOfAll (map (left k d P) ss)) refl
-          where
-            go : (n : ℕ) → bitsOfAll (map (left k d P) ss) ≡ n → 0 < n
-            go zero z =
-                absurd (omega (arith, h, ap ones es, ones-of P, no-errors d dl dh k t P (th .0) ss (r .width) z))
-            go (suc n) z = omega arith
-
-        pub at : Lowest k d P ss (trailingZeros 64 bits)
-        at = rw eb (lowest k d P ss residues kh some-bits)
-
+      module _ (kh : k ≤ 64) (far : e < errors k d P ss) where
         abbrev v : ℕ
-        v = trailingZeros 64 bits
+        v = lowestBit k d P ss
 
         abbrev W : List Share
         W = map (atBit k d P v) ss
 
+        at : Lowest k d P ss v
+        at = lowest-at d dl dh k t P ss kh (th .0) (r .width) (omega arith)
+
+        nothing : codeword 1 d t e W ≡ none → Round k d t e₀ ss₀ e w ss q Nothing
+        unfolding answer storedSecret
+        nothing x old =
+            rw (found-none (jump-none d dl dh k t e ss P v (r .holders) (r .width) (r .enough) (th .0) (at .room) (at .agree) x)) (refl, refl)
+
         -- a level's codeword: the shares that differ from it are dropped
-        module _ (u : ℕ) (g : Polynomial) (x : codeword 1 d t e W ≡ some g) (eu : u ≡ errorSet 1 d g W) where
+        module _ (g : Polynomial) (x : codeword 1 d t e W ≡ some g) where
+          abbrev u : ℕ
+          u = errorSet 1 d g W
+
           ones-u : ones u ≡ errors 1 d g W
-          ones-u = ap ones eu ∙ ones-at d k P v ss (r .holders) g
+          ones-u = ones-at d k P v ss (r .holders) g
 
           within : errors 1 d g W ≤ e
           within = codeword-sound 1 d t e W g x .1
 
           parts : holderSet ss ≡ u + holderSet (without u ss)
           parts =
-              let z = errorSet 1 d g W in
-              let f : z ≡ tally holderBit (λ s. differs 1 d g (atBit k d P v s)) ss =
+              let f : u ≡ tally holderBit (λ s. differs 1 d g (atBit k d P v s)) ss =
               errorSet-tally 1 d g W ∙ tally-reword holderBit (λ s. bitOf v (residue k d P s)) (differs 1 d g) ss in
-              rw eu
-              (tally-without holderBit (λ s. differs 1 d g (atBit k d P v s)) any z ss (bit-differs-at d k P v ss (r .holders) g)
+              tally-without holderBit (λ s. differs 1 d g (atBit k d P v s)) any u ss (bit-differs-at d k P v ss (r .holders) g)
               (all-any (λ s. differs 1 d g (atBit k d P v s)) ss)
-              ∙ ap (λ n. n + holderSet (without z ss)) (sym f))
+              ∙ ap (λ n. n + holderSet (without u ss)) (sym f)
 
           dropped : 0 < ones u
           dropped = go (ones u) refl
@@ -230,31 +193,18 @@ module _ (d : ℕ) (dl : 2 ≤ d) (dh : d ≤ 6) (k t e₀ : ℕ) (ss₀ : List 
                 holders = holders-without u d ss (r .holders);
                 rising = rising-without u ss (r .rising);
                 width = in-width-without u k d ss (r .width);
-                enough = rw (ones-u, eu) (enough-without d k P v ss (r .holders) g t e (r .enough) within);
+                enough = rw ones-u (enough-without d k P v ss (r .holders) g t e (r .enough) within);
                 fits = omega (arith, r .fits, parts);
                 same =
                     r .same
-                    ∙ rw (ones-u, eu)
+                    ∙ rw ones-u
                     (jump-with d dl dh k t e ss P v (r .holders) (r .width) (r .enough) (th .0) (at .room) (at .agree) g x (λ p n. outcome p (w + n))
-                    ∙ ap (λ (f : Polynomial → Outcome). Option·map f (codeword k d t (e - errors 1 d g W) (without (errorSet 1 d g W) ss)))
-                    (λ i p. outcome p (sym (add-assoc w (errorSet 1 d g W) (errorSet k d p (without (errorSet 1 d g W) ss))) i)));
+                    ∙ ap (λ (f : Polynomial → Outcome). Option·map f (codeword k d t (e - errors 1 d g W) (without u ss)))
+                    (λ i p. outcome p (sym (add-assoc w u (errorSet k d p (without u ss))) i)));
               }
 
-          jumped : Jumped k d t e₀ ss₀ e w ss u
-          jumped = record { within = rw ones-u within; fits = omega (arith, r .fits, parts); drops = dropped; next = after }
+          jumped : Round k d t e₀ ss₀ e w ss q (Wrong u false)
+          jumped = (omega (arith, r .fits, parts), record { within = rw ones-u within; drops = dropped; next = after })
 
-        -- what the level gave, of the shares that were left
-        module _ (rs : List Share) (er : rs ≡ map (left k d P) ss) (got : Level)
-            (el : got ≡ levelOf d (map (bitShare v) rs) (codeword 1 d t e (map (bitShare v) rs))) where
-          eg : got ≡ levelOf d W (codeword 1 d t e W)
-          eg = rw (ap (map (bitShare v)) er ∙ bits-left k d P v ss) at el
-
-          pub nothing : got ≡ Nothing → (old : List ℕ) →
-              (Nothing ≡ answer k d ss₀ (codeword k d t e₀ ss₀)) × (old ≡ storedSecret d (codeword k d t e₀ ss₀) old)
-          unfolding answer storedSecret
-          nothing x old =
-              let y = level-none d W (codeword 1 d t e W) got eg x in
-              rw (found-none (jump-none d dl dh k t e ss P v (r .holders) (r .width) (r .enough) (th .0) (at .room) (at .agree) y)) (refl, refl)
-
-          pub jump : (u : ℕ) → got ≡ Codeword u → Jumped k d t e₀ ss₀ e w ss u
-          jump u x = let y = level-some d W (codeword 1 d t e W) got u eg x in jumped u (y .0) (y .1) (y .2)
+      pub round : k ≤ 64 → (result got : Found) → result ≡ levelFound k d t e P ss → result ≡ got → Round k d t e₀ ss₀ e w ss q got
+      round kh result got x y = rw (sym y ∙ x) (by-level k d t e P ss (Round k d t e₀ ss₀ e w ss q) ends (nothing kh) (jumped kh))

@@ -1,2 +1,3 @@
 pub mod Decoded
+pub mod Found
 pub mod Residues

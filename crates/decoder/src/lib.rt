@@ -8,13 +8,14 @@ ghost use mathlib.Core.List.{[], _∷_};
 ghost use Prim.Native.Nat.{ℕ, suc, _+_, _*_, _≤_, _<_};
 ghost use lib.ListN.{length, take, getD, replicate};
 ghost use Rattle.galois.specs.Element.{held, lower};
-ghost use Rattle.polynomial.specs.Rows.{Shaped, reduceRows};
+ghost use Rattle.polynomial.specs.Rows.{Shaped, coefs, reduceRows};
 ghost use Rattle.codewords.specs.Codeword.{errorSet, codeword};
 ghost use Rattle.codewords.specs.Residue.{without};
 ghost use Rattle.codewords.specs.WellFormed.{InWidth, Rising, Holders};
 ghost use Rattle.level.specs.Shares.{sharesOf, Sized};
 ghost use Rattle.words.specs.Params.{paramsOk};
 ghost use Rattle.decoder.specs.Decoded.{Ordered, answer, storedSecret};
+ghost use Rattle.decoder.specs.Found.{levelFound};
 ghost use Rattle.decoder.specs.Residues.{Through, bitsOfAll};
 use level::Level;
 
@@ -22,6 +23,13 @@ use level::Level;
 struct Differing {
     set: u64,
     bits: u64,
+}
+
+// What one level gives: the set of the holders whose shares it finds wrong, and whether they are all that differ from the polynomial, which is
+// then the codeword; or that there is no codeword within the error bound.
+enum Found {
+    Wrong(u64, bool),
+    Nothing,
 }
 
 // Zero and one, where interpolation starts: the first t + 2 rows of each, all that it looks at.
@@ -120,8 +128,42 @@ fn drop_wrong(w: u64, m: usize, hs: &mut [u64; 63], ys: &mut [[u64; 6]; 63]) -> 
     j
 }
 
-// The search: `count` shares are still in, of which `bound` may differ; those of the holders in `wrong` are out. The first t + 1 rows of
-// `rest` stay zero: nothing is left of the shares that the polynomial goes through.
+// One level: what the polynomial p, which goes through the first t + 1 shares, leaves of the others; if more of them than e differ from it, the
+// field decoder at the lowest bit at which any does. The first t + 1 rows of `rest` are zero and stay so: nothing is left of the shares that p
+// goes through.
+fn decode_level(
+    k: u64,
+    d: usize,
+    low: [u64; 6],
+    p: [[u64; 6]; 64],
+    t: usize,
+    m: usize,
+    hs: &[u64; 63],
+    ys: &[[u64; 6]; 63],
+    rest: &mut [[u64; 6]; 63],
+    e: u64,
+) -> Found
+    requires { ⌜ ((1 ≤ k) × (k ≤ 64)) × ((2 ≤ d) × (d ≤ 6)) × (low ≡ held d (lower d)) × (t ≤ 62) × (m ≤ 63) × (suc t + 2 * e ≤ m)
+        × Holders d (sharesOf d m (now hs) (now ys)) × InWidth k d (sharesOf d m (now hs) (now ys))
+        × Through k d t (sharesOf d (suc t) (now hs) (now ys)) p
+        × (length (now rest) ≡ 63) × (take (suc t) (now rest) ≡ replicate (suc t) (replicate 6 0)) ⌝ }
+    ensures found { λ r. ⌜ r ≡ levelFound k d t e (coefs d (suc t) p) (sharesOf d m (now (hs .entry)) (now (ys .entry))) ⌝ }
+    ensures rest { λ _. ⌜ (length (now (rest .exit)) ≡ 63) × (take (suc t) (now (rest .exit)) ≡ replicate (suc t) (replicate 6 0)) ⌝ }
+{
+    level::residues(k, d, low, p, t, m, hs, ys, rest);
+    let c = compare(m, hs, rest);
+    if u64::count_ones(c.set) as u64 <= e {
+        return Found::Wrong(c.set, true);
+    }
+    let v = u64::trailing_zeros(c.bits) as u64;
+    let got = level::decide(d, low, v, t, m, hs, rest, e);
+    let Level::Codeword(w) = got else {
+        return Found::Nothing;
+    };
+    Found::Wrong(w, false)
+}
+
+// The search: `count` shares are still in, of which `bound` may differ; those of the holders in `wrong` are out.
 fn search(
     k: u64,
     d: usize,
@@ -148,21 +190,17 @@ fn search(
     let mut nodal = [[0u64; 6]; 64];
     loop {
         interpolate(k, d, low, t, hs, ys, &mut q, &mut nodal);
-        level::residues(k, d, low, q, t, count, hs, ys, &mut rest);
-        let c = compare(count, hs, &rest);
-        if u64::count_ones(c.set) as u64 <= bound {
-            *out = q[0];
-            wrong += c.set;
-            return Level::Codeword(wrong);
-        }
-        let v = u64::trailing_zeros(c.bits) as u64;
-        let got = level::decide(d, low, v, t, count, hs, &rest, bound);
-        let Level::Codeword(w) = got else {
+        let got = decode_level(k, d, low, q, t, count, hs, ys, &mut rest, bound);
+        let Found::Wrong(w, all) = got else {
             return Level::Nothing;
         };
+        wrong += w;
+        if all {
+            *out = q[0];
+            return Level::Codeword(wrong);
+        }
         let errors = u64::count_ones(w) as u64;
         bound -= errors;
-        wrong += w;
         count = drop_wrong(w, count, hs, ys);
     }
 }
