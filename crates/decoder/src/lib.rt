@@ -7,7 +7,6 @@ ghost use mathlib.Core.Bool.{true};
 ghost use mathlib.Core.List.{[], _∷_};
 ghost use Prim.Native.Nat.{ℕ, suc, _+_, _*_, _≤_, _<_};
 ghost use lib.ListN.{length, take, getD, replicate};
-ghost use Rattle.galois.specs.Element.{held, lower};
 ghost use Rattle.polynomial.specs.Rows.{Shaped, coefs, reduceRows};
 ghost use Rattle.codewords.specs.Codeword.{errorSet, codeword};
 ghost use Rattle.codewords.specs.Residue.{without};
@@ -64,14 +63,13 @@ fn reduce_rows(k: u64, t: usize, q: &mut [[u64; 6]; 64])
 fn interpolate(
     k: u64,
     d: usize,
-    low: [u64; 6],
     t: usize,
     hs: &[u64; 63],
     ys: &[[u64; 6]; 63],
     q: &mut [[u64; 6]; 64],
     nodal: &mut [[u64; 6]; 64],
 )
-    requires { ⌜ ((1 ≤ k) × (k ≤ 64)) × ((2 ≤ d) × (d ≤ 6)) × (low ≡ held d (lower d)) × (t ≤ 62)
+    requires { ⌜ ((1 ≤ k) × (k ≤ 64)) × ((2 ≤ d) × (d ≤ 6)) × (t ≤ 62)
         × Holders d (sharesOf d (suc t) (now hs) (now ys)) × InWidth k d (sharesOf d (suc t) (now hs) (now ys))
         × Shaped (now q) × Shaped (now nodal) ⌝ }
     ensures { λ _. ⌜ Through k d t (sharesOf d (suc t) (now (hs .entry)) (now (ys .entry))) (now (q .exit))
@@ -81,7 +79,7 @@ fn interpolate(
     let mut i = t + 1;
     while 0 < i {
         i -= 1;
-        polynomial::extend(k, d, low, q, nodal, t - i, hs[i], ys[i]);
+        polynomial::extend(k, d, q, nodal, t - i, hs[i], ys[i]);
     }
     reduce_rows(k, t, q);
 }
@@ -134,7 +132,6 @@ fn drop_wrong(w: u64, m: usize, hs: &mut [u64; 63], ys: &mut [[u64; 6]; 63]) -> 
 fn decode_level(
     k: u64,
     d: usize,
-    low: [u64; 6],
     p: [[u64; 6]; 64],
     t: usize,
     m: usize,
@@ -143,20 +140,20 @@ fn decode_level(
     rest: &mut [[u64; 6]; 63],
     e: u64,
 ) -> Found
-    requires { ⌜ ((1 ≤ k) × (k ≤ 64)) × ((2 ≤ d) × (d ≤ 6)) × (low ≡ held d (lower d)) × (t ≤ 62) × (m ≤ 63) × (suc t + 2 * e ≤ m)
+    requires { ⌜ ((1 ≤ k) × (k ≤ 64)) × ((2 ≤ d) × (d ≤ 6)) × (t ≤ 62) × (m ≤ 63) × (suc t + 2 * e ≤ m)
         × Holders d (sharesOf d m (now hs) (now ys)) × InWidth k d (sharesOf d m (now hs) (now ys))
         × Through k d t (sharesOf d (suc t) (now hs) (now ys)) p
         × (length (now rest) ≡ 63) × (take (suc t) (now rest) ≡ replicate (suc t) (replicate 6 0)) ⌝ }
     ensures found { λ r. ⌜ r ≡ levelFound k d t e (coefs d (suc t) p) (sharesOf d m (now (hs .entry)) (now (ys .entry))) ⌝ }
     ensures rest { λ _. ⌜ (length (now (rest .exit)) ≡ 63) × (take (suc t) (now (rest .exit)) ≡ replicate (suc t) (replicate 6 0)) ⌝ }
 {
-    level::residues(k, d, low, p, t, m, hs, ys, rest);
+    level::residues(k, d, p, t, m, hs, ys, rest);
     let c = compare(m, hs, rest);
     if u64::count_ones(c.set) as u64 <= e {
         return Found::Wrong(c.set, true);
     }
     let v = u64::trailing_zeros(c.bits) as u64;
-    let got = level::decide(d, low, v, t, m, hs, rest, e);
+    let got = level::decide(d, v, t, m, hs, rest, e);
     let Level::Codeword(w) = got else {
         return Found::Nothing;
     };
@@ -167,7 +164,6 @@ fn decode_level(
 fn search(
     k: u64,
     d: usize,
-    low: [u64; 6],
     t: usize,
     m: usize,
     hs: &mut [u64; 63],
@@ -175,7 +171,7 @@ fn search(
     e: u64,
     out: &mut [u64; 6],
 ) -> Level
-    requires { ⌜ ((1 ≤ k) × (k ≤ 64)) × ((2 ≤ d) × (d ≤ 6)) × (low ≡ held d (lower d)) × (t ≤ 62) × (m ≤ 63) × (suc t + 2 * e ≤ m)
+    requires { ⌜ ((1 ≤ k) × (k ≤ 64)) × ((2 ≤ d) × (d ≤ 6)) × (t ≤ 62) × (m ≤ 63) × (suc t + 2 * e ≤ m)
         × Holders d (sharesOf d m (now hs) (now ys)) × Rising (sharesOf d m (now hs) (now ys)) × InWidth k d (sharesOf d m (now hs) (now ys))
         × (length (now hs) ≡ 63) × (length (now ys) ≡ 63) ⌝ }
     ensures level { λ r. ⌜ r ≡ answer k d (sharesOf d m (now (hs .entry)) (now (ys .entry)))
@@ -189,8 +185,8 @@ fn search(
     let mut q = [[0u64; 6]; 64];
     let mut nodal = [[0u64; 6]; 64];
     loop {
-        interpolate(k, d, low, t, hs, ys, &mut q, &mut nodal);
-        let got = decode_level(k, d, low, q, t, count, hs, ys, &mut rest, bound);
+        interpolate(k, d, t, hs, ys, &mut q, &mut nodal);
+        let got = decode_level(k, d, q, t, count, hs, ys, &mut rest, bound);
         let Found::Wrong(w, all) = got else {
             return Level::Nothing;
         };
@@ -222,6 +218,5 @@ pub fn decode(
     ensures out { λ _. ⌜ now (out .exit) ≡ storedSecret (p .d) (codeword (p .k) (p .d) (p .t) e
         (sharesOf (p .d) m (now (holders .entry)) (now (shares .entry)))) (now (out .entry)) ⌝ }
 {
-    let low = ring::lower_of(p.d);
-    search(p.k, p.d, low, p.t, m, holders, shares, e, out)
+    search(p.k, p.d, p.t, m, holders, shares, e, out)
 }

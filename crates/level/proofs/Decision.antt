@@ -1,6 +1,6 @@
 -- What the field decoder decides, from what its parts compute: the slices hold the shares of one bit, so the verdict is the codeword's.
 -- Assumes nothing.
-use mathlib.Core.Path.{_≡_, sym, _∙_, ap}
+use mathlib.Core.Path.{_≡_, refl, sym, _∙_, ap}
 use mathlib.Core.List.{List, map}
 use Prim.Native.Nat.{ℕ, suc, _+_, _*_, _≤_, _<_}
 use native.Mathlib.Omega.{arith}
@@ -17,9 +17,8 @@ use Rattle.sliced.proofs.Lanes.{length-points}
 use Rattle.level.specs.Level.{levelOf}
 use Rattle.level.specs.Shares.{sharesOf, Sized, Numbered, holderSet}
 use Rattle.level.specs.KeyEquation.{startLanes, runLanes}
-use Rattle.level.specs.Interpolation.{startNewton, gatherLanes}
+use Rattle.level.specs.Interpolation.{Newton, startNewton, gatherLanes}
 use Rattle.level.specs.declared.Level.the-variants.{Codeword, Nothing}
-use Rattle.level.specs.declared.Newton.{Newton}
 use Rattle.level.proofs.Shares.{numbered-length, holders-numbered, sized-length}
 use Rattle.level.proofs.AtBit.{bit-elements, bit-length, none, lane-words, lane-holder, lane-point}
 use Rattle.level.proofs.Verdict.{verdict-few, verdict-found, verdict-none}
@@ -39,7 +38,11 @@ module _ (d : ℕ) (dl : 2 ≤ d) (dh : d ≤ 6) (v t e m : ℕ) (hs : List ℕ)
   rows-length = sized-length d (omega arith) hs ys m b
 
   module _ (y : List ℕ) (ey : y ≡ sliceOf v m ys) (ly : length y ≡ 6) (x : List ℕ) (ex : x ≡ pointsOf m hs) (w : ℕ)
-      (ew : w ≡ supportOf d (runLanes d x (startLanes y t) m m .b1)) (s : Newton) (es : s ≡ gatherLanes d x t w (startNewton y) m m) where
+      (ew : w ≡ supportOf d (runLanes d x (startLanes y t) m m .b1)) (n : ℕ) (gap : List ℕ)
+      (es : (n ≡ gatherLanes d x t w (startNewton y) m m .n) × (gap ≡ gatherLanes d x t w (startNewton y) m m .gap)) where
+    abbrev s : Newton
+    s = gatherLanes d x t w (startNewton y) m m
+
     abbrev z : Share
     z = none d v m hs ys
 
@@ -64,15 +67,21 @@ module _ (d : ℕ) (dl : 2 ≤ d) (dh : d ≤ 6) (v t e m : ℕ) (hs : List ℕ)
     hb : InWidth 1 d W
     hb = bit-elements d v (sharesOf d m hs ys) b
 
-    pub decides-few : s .n ≤ t → Nothing ≡ levelOf d W (codeword 1 d t e W)
-    decides-few =
-        verdict-few d dl dh t e W z m lw mh ha hb enough x y hs lx ly points words holders w ew s es
+    pub decides-few : n ≤ t → Nothing ≡ levelOf d W (codeword 1 d t e W)
+    decides-few h =
+        verdict-few d dl dh t e W z m lw mh ha hb enough x y hs lx ly points words holders w ew s refl (omega (arith, es .0))
 
-    module _ (full : t < s .n) (g : ℕ) (eg : g ≡ supportOf d (s .gap)) (o : ℕ) (eo : o ≡ holderSet g hs 0 m) where
+    module _ (full : t < n) (g : ℕ) (eg : g ≡ supportOf d gap) (o : ℕ) (eo : o ≡ holderSet g hs 0 m) where
+      full-s : t < s .n
+      full-s = omega (arith, es .0)
+
+      eo-s : o ≡ holderSet (supportOf d (s .gap)) hs 0 m
+      eo-s = eo ∙ ap (λ l. holderSet l hs 0 m) (eg ∙ ap (supportOf d) (es .1))
+
       pub decides-found : ones o ≤ e → Codeword o ≡ levelOf d W (codeword 1 d t e W)
       decides-found =
-          verdict-found d dl dh t e W z m lw mh ha hb enough x y hs lx ly points words holders w ew s es full o (eo ∙ ap (λ l. holderSet l hs 0 m) eg)
+          verdict-found d dl dh t e W z m lw mh ha hb enough x y hs lx ly points words holders w ew s refl full-s o eo-s
 
       pub decides-none : e < ones o → Nothing ≡ levelOf d W (codeword 1 d t e W)
       decides-none =
-          verdict-none d dl dh t e W z m lw mh ha hb enough x y hs lx ly points words holders w ew s es full o (eo ∙ ap (λ l. holderSet l hs 0 m) eg)
+          verdict-none d dl dh t e W z m lw mh ha hb enough x y hs lx ly points words holders w ew s refl full-s o eo-s

@@ -18,8 +18,7 @@ use Rattle.algebra.proofs.KeyEquation.{Pivot, none, first, second, pivot, gap, 
 use Rattle.galois.proofs.Galois.{GR, neg-self}
 use Rattle.galois.proofs.Instance.{ringOf}
 use Rattle.sliced.specs.Lane.{supportOf}
-use Rattle.level.specs.KeyEquation.{zeroAt, raised, swapped, moveLanes, stepLanes, startLanes, runLanes}
-use Rattle.level.specs.declared.Pairs.{Pairs}
+use Rattle.level.specs.KeyEquation.{Pairs, zeroAt, raised, swapped, moveLanes, stepLanes, startLanes, runLanes}
 use Rattle.level.proofs.Lanes.{Lanes, lanes-same, lanes-times, lanes-spread, lanes-mix, lanes-root, lanes-one, lanes-zero, zero-at}
 
 -- the values of the pairs (1, 0) and (0, 1)

@@ -26,8 +26,7 @@ use Rattle.codewords.specs.WellFormed.{Different, Holders}
 use Rattle.codewords.proofs.Value.{shareOf}
 use Rattle.codewords.proofs.Unique.{apart-of}
 use Rattle.codewords.proofs.Candidate.{member}
-use Rattle.level.specs.Interpolation.{trustIf, trustLanes, startNewton, gatherLanes}
-use Rattle.level.specs.declared.Newton.{Newton}
+use Rattle.level.specs.Interpolation.{Newton, trustIf, trustLanes, startNewton, gatherLanes}
 use Rattle.level.proofs.Lanes.{Lanes, lanes-same, lanes-times, lanes-spread, lanes-mix, lanes-root, lanes-one}
 use Rattle.level.proofs.Located.{start-one}
 use Rattle.level.proofs.Shares.{holders-drop}

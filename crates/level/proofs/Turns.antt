@@ -8,16 +8,14 @@ use native.Mathlib.Omega.{arith}
 use lib.Bits.{bitOr}
 use lib.Pow.{pow-lt}
 use lib.Dec.{leb, eqb}
-use lib.ListN.{getD}
+use lib.ListN.{getD, replicate}
 use borrow.Author.Tests.{le-leb, lt-leb, eq-eqb}
 use Rattle.algebra.proofs.KeyEquation.{Pivot, none, first, second, pivot}
 use Rattle.sliced.specs.Lane.{plusLanes, timesLanes, spreadLane}
 use Rattle.level.specs.Shares.{holderSet}
-use Rattle.level.specs.KeyEquation.{leadOf, zeroAt, mixLanes, rootLanes, raised, moveLanes, stepLanes, runLanes}
-use Rattle.level.specs.Interpolation.{trustIf, trustLanes, gatherLanes}
+use Rattle.level.specs.KeyEquation.{Pairs, leadOf, zeroAt, mixLanes, rootLanes, raised, moveLanes, stepLanes, ones, startLanes, runLanes}
+use Rattle.level.specs.Interpolation.{Newton, newtonOf, trustIf, trustLanes, startNewton, gatherLanes}
 use Rattle.level.specs.declared.Lead.{Lead}
-use Rattle.level.specs.declared.Pairs.{Pairs}
-use Rattle.level.specs.declared.Newton.{Newton}
 
 -- which pair leads
 lead-inj : (x y : Pivot) → leadOf x ≡ leadOf y → x ≡ y
@@ -40,23 +38,22 @@ module _ (d : ℕ) (xs : List ℕ) where
       ap (λ v. moveLanes d xs i v p)
       (sym (lead-inj (pivot z₀ z₁ (leb (p .d0) (p .d1))) q (sym h ∙ k)) ∙ λ j. pivot (f₀ j) (f₁ j) (leb (p .d0) (p .d1)))
 
-  pub raised-by : (i : ℕ) (p : Pairs) (s w e₀ e₁ v₀ b₀ v₁ b₁ : List ℕ) → s ≡ spreadLane xs i → w ≡ plusLanes xs s → e₀ ≡ spreadLane (p .v0) i →
-      e₁ ≡ spreadLane (p .v1) i → v₀ ≡ timesLanes d w (p .v0) → b₀ ≡ timesLanes d w (p .b0) → v₁ ≡ mixLanes d e₀ (p .v1) e₁ (p .v0) →
-      b₁ ≡ mixLanes d e₀ (p .b1) e₁ (p .b0) →
-      _≡_ {A = Pairs} (record { v0 = v₀; b0 = b₀; d0 = p .d0 + 1; v1 = v₁; b1 = b₁; d1 = p .d1 }) (raised d xs i p)
-  raised-by i p s w e₀ e₁ v₀ b₀ v₁ b₁ hs hw h₀ h₁ hv₀ hb₀ hv₁ hb₁ =
-      let r : w ≡ rootLanes xs i = hw ∙ ap (plusLanes xs) hs in
-      λ j. record {
-        v0 = (hv₀ ∙ ap (λ x. timesLanes d x (p .v0)) r) j;
-        b0 = (hb₀ ∙ ap (λ x. timesLanes d x (p .b0)) r) j;
-        d0 = p .d0 + 1;
-        v1 = (hv₁ ∙ ap₂ (λ x y. mixLanes d x (p .v1) y (p .v0)) h₀ h₁) j;
-        b1 = (hb₁ ∙ ap₂ (λ x y. mixLanes d x (p .b1) y (p .b0)) h₀ h₁) j;
-        d1 = p .d1;
-      }
+  -- two slices p and o after a turn at share i, by the values of u and v there
+  pub turned : (i : ℕ) (u v : List ℕ) {s w c e : List ℕ} → s ≡ spreadLane xs i → w ≡ plusLanes xs s → c ≡ spreadLane u i → e ≡ spreadLane v i →
+      (p o p₁ o₁ : List ℕ) → (p₁ ≡ timesLanes d w p) × (o₁ ≡ mixLanes d c o e p) →
+      (p₁ ≡ timesLanes d (rootLanes xs i) p) × (o₁ ≡ mixLanes d (spreadLane u i) o (spreadLane v i) p)
+  turned i u v hs hw hc he p o p₁ o₁ h =
+      (h .0 ∙ ap (λ x. timesLanes d x p) (hw ∙ ap (plusLanes xs) hs), h .1 ∙ ap₂ (λ x y. mixLanes d x o y p) hc he)
+
+  -- the pairs after it, slice by slice
+  pub raised-by : (i : ℕ) (p : Pairs) {v₀ b₀ v₁ b₁ : List ℕ} →
+      (let r = raised d xs i p in
+      (v₀ ≡ r .v0) × (b₀ ≡ r .b0) × (v₁ ≡ r .v1) × (b₁ ≡ r .b1) →
+      _≡_ {A = Pairs} (record { v0 = v₀; b0 = b₀; d0 = r .d0; v1 = v₁; b1 = b₁; d1 = r .d1 }) r)
+  raised-by i p h = λ j. record { v0 = h .0 j; b0 = h .1 j; d0 = p .d0 + 1; v1 = h .2 j; b1 = h .3 j; d1 = p .d1 }
 
   -- a degree rises by one at most
-  pub step-degrees : (i : ℕ) (p : Pairs) → (stepLanes d xs i p .d0 ≤ p .d0 + 1) × (stepLanes d xs i p .d1 ≤ p .d1 + 1)
+  step-degrees : (i : ℕ) (p : Pairs) → (stepLanes d xs i p .d0 ≤ p .d0 + 1) × (stepLanes d xs i p .d1 ≤ p .d1 + 1)
   unfolding stepLanes
   step-degrees i p = go (pivot (zeroAt d (p .v0) i) (zeroAt d (p .v1) i) (leb (p .d0) (p .d1)))
     where
@@ -65,17 +62,27 @@ module _ (d : ℕ) (xs : List ℕ) where
       go first = (omega arith, omega arith)
       go second = (omega arith, omega arith)
 
-  pub run-start : (m : ℕ) (p : Pairs) → p ≡ runLanes d xs p m (m - m)
-  unfolding runLanes
-  run-start m p = let e : m - m ≡ 0 = omega arith in rw e
+  -- the pairs while i of m shares are to come
+  abbrev pub Ran : ℕ → ℕ → Pairs → ℕ → Pairs → Type 0
+  Ran t m p₀ i p = (i ≤ m) × (p .d0 ≤ m - i) × (p .d1 ≤ t + (m - i)) × (p ≡ runLanes d xs p₀ m (m - i))
 
-  pub run-turn : (m i : ℕ) → 0 < i → i ≤ m → (p₀ p : Pairs) → p ≡ runLanes d xs p₀ m (m - i) →
-      stepLanes d xs (i - 1) p ≡ runLanes d xs p₀ m (m - (i - 1))
+  pub run-start : (t m : ℕ) (p : Pairs) → p .d0 ≤ 0 → p .d1 ≤ t → Ran t m p m p
   unfolding runLanes
-  run-turn m i h l p₀ p e =
-      let f : m - (i - 1) ≡ suc (m - i) = omega arith in
-      let g : m - suc (m - i) ≡ i - 1 = omega arith in
-      rw (f, g, e)
+  run-start t m p h l = let e : m - m ≡ 0 = omega arith in (omega arith, omega arith, omega arith, rw e)
+
+  pub run-turn : (t m : ℕ) (p₀ : Pairs) (i : ℕ) {p q : Pairs} → 0 < i → Ran t m p₀ i p → q ≡ stepLanes d xs (i - 1) p → Ran t m p₀ (i - 1) q
+  unfolding runLanes
+  run-turn t m p₀ i {p} {q} h r e =
+      let f : m - (i - 1) ≡ suc (m - i) = omega (arith, r .0) in
+      let g : m - suc (m - i) ≡ i - 1 = omega (arith, r .0) in
+      let b = step-degrees (i - 1) p in
+      let e₀ : q .d0 ≡ stepLanes d xs (i - 1) p .d0 = ap (λ (x : Pairs). x .d0) e in
+      let e₁ : q .d1 ≡ stepLanes d xs (i - 1) p .d1 = ap (λ (x : Pairs). x .d1) e in
+      (omega (arith, r .0), omega (arith, r .1), omega (arith, r .2), rw (e, f, g, ← r .3))
+
+  pub run-end : (t m : ℕ) (ys : List ℕ) {o b : List ℕ} (i : ℕ) {p : Pairs} → o ≡ ones → b ≡ ones → i ≤ 0 →
+      Ran t m (record { v0 = o; b0 = replicate 6 0; d0 = 0; v1 = ys; b1 = b; d1 = t }) i p → p ≡ runLanes d xs (startLanes ys t) m m
+  run-end t m ys i ho hb h r = let f : m - i ≡ m = omega (arith, r .0) in r .3 ∙ rw (f, ho, hb)
 
   -- the interpolation: the three ends of a turn
   module _ (t w i : ℕ) (s : Newton) where
@@ -91,27 +98,21 @@ module _ (d : ℕ) (xs : List ℕ) where
     unfolding trustLanes
     trust-in h z = rw (le-leb (s .n) t h, z)
 
-  pub trusted-by : (i : ℕ) (s : Newton) (x w c g p q : List ℕ) → x ≡ spreadLane xs i → w ≡ plusLanes xs x → c ≡ spreadLane (s .nodal) i →
-      g ≡ spreadLane (s .gap) i → p ≡ mixLanes d c (s .gap) g (s .nodal) → q ≡ timesLanes d w (s .nodal) →
-      _≡_ {A = Newton} (record { gap = p; nodal = q; n = s .n + 1 }) (trustIf true d xs i s)
-  trusted-by i s x w c g p q hx hw hc hg hp hq =
-      λ j. record {
-        gap = (hp ∙ ap₂ (λ a b. mixLanes d a (s .gap) b (s .nodal)) hc hg) j;
-        nodal = (hq ∙ ap (λ a. timesLanes d a (s .nodal)) (hw ∙ ap (plusLanes xs) hx)) j;
-        n = s .n + 1;
-      }
-
   pub gather-start : (t w m : ℕ) (s : Newton) → s ≡ gatherLanes d xs t w s m (m - m)
   unfolding gatherLanes
   gather-start t w m s = let e : m - m ≡ 0 = omega arith in rw e
 
-  pub gather-turn : (t w m i : ℕ) → 0 < i → i ≤ m → (s₀ s : Newton) → s ≡ gatherLanes d xs t w s₀ m (m - i) →
-      trustLanes d xs t w (i - 1) s ≡ gatherLanes d xs t w s₀ m (m - (i - 1))
+  pub gather-turn : (t w m : ℕ) (s₀ : Newton) (i : ℕ) {s r : Newton} → 0 < i → i ≤ m → s ≡ gatherLanes d xs t w s₀ m (m - i) →
+      r ≡ trustLanes d xs t w (i - 1) s → r ≡ gatherLanes d xs t w s₀ m (m - (i - 1))
   unfolding gatherLanes
-  gather-turn t w m i h l s₀ s e =
+  gather-turn t w m s₀ i h l e n =
       let f : m - (i - 1) ≡ suc (m - i) = omega arith in
       let g : m - suc (m - i) ≡ i - 1 = omega arith in
-      rw (f, g, e)
+      rw (n, f, g, ← e)
+
+  pub gather-end : (t w m : ℕ) (ys : List ℕ) {o : List ℕ} (i : ℕ) {s : Newton} → o ≡ ones → i ≤ 0 →
+      s ≡ gatherLanes d xs t w (newtonOf 0 ys o) m (m - i) → s ≡ gatherLanes d xs t w (startNewton ys) m m
+  gather-end t w m ys i ho h e = let f : m - i ≡ m = omega arith in e ∙ rw (f, ho)
 
 -- the set of holders
 module _ (w m : ℕ) (hs : List ℕ) where

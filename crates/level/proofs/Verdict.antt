@@ -39,9 +39,8 @@ use Rattle.sliced.specs.Lane.{lane, supportOf}
 use Rattle.level.specs.Level.{levelOf}
 use Rattle.level.specs.Shares.{orIf, holderSet}
 use Rattle.level.specs.KeyEquation.{startLanes, runLanes}
-use Rattle.level.specs.Interpolation.{startNewton, gatherLanes}
+use Rattle.level.specs.Interpolation.{Newton, startNewton, gatherLanes}
 use Rattle.level.specs.declared.Level.the-variants.{Codeword, Nothing}
-use Rattle.level.specs.declared.Newton.{Newton}
 use Rattle.level.proofs.Lanes.{Lanes, lanes-same, in-support}
 use Rattle.level.proofs.Located.{locates}
 use Rattle.level.proofs.Trusted.{Gathered, gathered-all}

@@ -5,7 +5,17 @@ use Prim.Native.Nat.{ℕ, zero, suc, _+_, _-_, _/_, _%_, _^_}
 use lib.Dec.{leb, eqb}
 use Rattle.sliced.specs.Lane.{timesLanes, spreadLane}
 use Rattle.level.specs.KeyEquation.{ones, mixLanes, rootLanes}
-use Rattle.level.specs.declared.Newton.{Newton}
+
+-- Newton's interpolation through n shares, without division: lane i of gap is q(x) - y at share i, times something that is not zero and is
+-- the same for all shares, and lane i of nodal is the product of the x - z over the points z of the n shares.
+pub record Newton : Type 0 where
+  pub gap : List ℕ
+  pub nodal : List ℕ
+  pub n : ℕ
+
+-- the code keeps the number and the two slices apart
+abbrev pub newtonOf : ℕ → List ℕ → List ℕ → Newton
+newtonOf n gap nodal = record { gap = gap; nodal = nodal; n = n }
 
 -- one share more: the gap of each share is made the same multiple, and that of the nodal polynomial taken off
 abbrev pub trustIf : Bool → ℕ → List ℕ → ℕ → Newton → Newton
@@ -23,7 +33,7 @@ trustLanes d xs t w i s = trustIf (leb (s .n) t && not (eqb (w / 2 ^ i % 2) 0)) 
 
 -- before any share: the polynomial is zero
 abbrev pub startNewton : List ℕ → Newton
-startNewton ys = record { gap = ys; nodal = ones; n = 0 }
+startNewton ys = newtonOf 0 ys ones
 
 -- the last n of m shares, the last one first
 unfoldable pub gatherLanes : ℕ → List ℕ → ℕ → ℕ → Newton → ℕ → ℕ → Newton

@@ -10,7 +10,21 @@ use Rattle.algebra.proofs.KeyEquation.{Pivot, none, first, second, pivot}
 use Rattle.sliced.specs.Lane.{plusLanes, timesLanes, spreadLane, supportOf}
 use Rattle.level.specs.declared.Lead.{Lead}
 use Rattle.level.specs.declared.Lead.the-variants.{Neither, First, Second}
-use Rattle.level.specs.declared.Pairs.{Pairs}
+use Rattle.level.specs.declared.Degrees.{Degrees}
+
+-- The key equation's two pairs at the shares: lane i of v0 is a(x) + b(x) y of the first pair at share i, lane i of b0 is b(x), and d0 is
+-- the pair's degree; v1, b1 and d1 are those of the second pair.
+pub record Pairs : Type 0 where
+  pub v0 : List ℕ
+  pub b0 : List ℕ
+  pub d0 : ℕ
+  pub v1 : List ℕ
+  pub b1 : List ℕ
+  pub d1 : ℕ
+
+-- the code keeps the degrees and the four slices apart
+abbrev pub pairsOf : Degrees → List ℕ → List ℕ → List ℕ → List ℕ → Pairs
+pairsOf g v0 b0 v1 b1 = record { v0 = v0; b0 = b0; d0 = g .first; v1 = v1; b1 = b1; d1 = g .second }
 
 -- which pair is multiplied, as the code says it
 abbrev pub leadOf : Pivot → Lead

@@ -1,7 +1,7 @@
 // Elements of the Galois ring: d words of k bits, 2 to 6, in arrays of six with zeros after the d words; and the calls on lent elements.
 ghost use mathlib.Core.Path.{_≡_};
 ghost use mathlib.Core.Bool.{cond};
-ghost use mathlib.Core.List.{_∷_, [], _++_};
+ghost use mathlib.Core.List.{_∷_, _++_};
 ghost use Prim.Native.Nat.{ℕ, _+_, _-_, _^_, _≤_};
 ghost use lib.Dec.{ltb};
 ghost use lib.ListN.{length, take, drop, getD};
@@ -176,9 +176,9 @@ fn product64(d: usize, a: [u64; 6], b: [u64; 6]) -> [u64; 6]
     }
 }
 
-// a times b: words of 64 bits, reduced once at the end. The row that is handed on is not read here: `product64` reads its own.
-pub fn product(k: u64, d: usize, low: [u64; 6], a: [u64; 6], b: [u64; 6]) -> [u64; 6]
-    requires { ⌜ ((1 ≤ k) × (k ≤ 64)) × ((2 ≤ d) × (d ≤ 6)) × (low ≡ held d (lower d)) ⌝ }
+// a times b: words of 64 bits, reduced once at the end.
+pub fn product(k: u64, d: usize, a: [u64; 6], b: [u64; 6]) -> [u64; 6]
+    requires { ⌜ ((1 ≤ k) × (k ≤ 64)) × ((2 ≤ d) × (d ≤ 6)) ⌝ }
     ensures { λ r. ⌜ r ≡ held d (product k (lower d) (take d a) (take d b)) ⌝ }
 {
     reduce(k, product64(d, a, b))
@@ -226,8 +226,8 @@ fn product64_by_point(d: usize, a: [u64; 6], i: u64) -> [u64; 6]
 }
 
 // The point of holder i times a.
-pub fn product_by_point(k: u64, d: usize, low: [u64; 6], a: [u64; 6], i: u64) -> [u64; 6]
-    requires { ⌜ ((1 ≤ k) × (k ≤ 64)) × ((2 ≤ d) × (d ≤ 6)) × (low ≡ held d (lower d)) ⌝ }
+pub fn product_by_point(k: u64, d: usize, a: [u64; 6], i: u64) -> [u64; 6]
+    requires { ⌜ ((1 ≤ k) × (k ≤ 64)) × ((2 ≤ d) × (d ≤ 6)) ⌝ }
     ensures { λ r. ⌜ r ≡ held d (product k (lower d) (point d i) (take d a)) ⌝ }
 {
     reduce(k, product64_by_point(d, a, i))
@@ -293,8 +293,8 @@ fn newton64(k: u64, d: usize, a: [u64; 6], start: [u64; 6]) -> [u64; 6]
 }
 
 // The inverse, or zero for what is zero modulo two: words of 64 bits, reduced at the end.
-pub fn inverse_of(k: u64, d: usize, low: [u64; 6], a: [u64; 6]) -> [u64; 6]
-    requires { ⌜ ((1 ≤ k) × (k ≤ 64)) × ((2 ≤ d) × (d ≤ 6)) × (low ≡ held d (lower d)) ⌝ }
+pub fn inverse_of(k: u64, d: usize, a: [u64; 6]) -> [u64; 6]
+    requires { ⌜ ((1 ≤ k) × (k ≤ 64)) × ((2 ≤ d) × (d ≤ 6)) ⌝ }
     ensures { λ r. ⌜ r ≡ held d (inverse k d (take d a)) ⌝ }
 {
     reduce(k, newton64(k, d, a, reduce(1, fermat64(d, a))))
@@ -407,7 +407,7 @@ pub fn multiply(p: words::Params, a: &[u64], b: &[u64], out: &mut [u64]) -> u8
     }
     let x = load(p.d, a, 0);
     let y = load(p.d, b, 0);
-    store(p.d, out, 0, product(p.k, p.d, lower_of(p.d), x, y));
+    store(p.d, out, 0, product(p.k, p.d, x, y));
     0
 }
 
@@ -422,6 +422,6 @@ pub fn invert(p: words::Params, a: &[u64], out: &mut [u64]) -> u8
         return fault;
     }
     let x = load(p.d, a, 0);
-    store(p.d, out, 0, inverse_of(p.k, p.d, lower_of(p.d), x));
+    store(p.d, out, 0, inverse_of(p.k, p.d, x));
     0
 }

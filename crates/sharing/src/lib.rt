@@ -7,7 +7,7 @@ ghost use Prim.Native.Nat.{_*_, _≤_};
 ghost use lib.ListN.{length, take};
 ghost use Rattle.words.specs.Params.{paramsOk};
 ghost use Rattle.words.specs.Refusal.{kept};
-ghost use Rattle.galois.specs.Element.{held, zeroE, lower, point};
+ghost use Rattle.galois.specs.Element.{held, zeroE, point};
 ghost use Rattle.polynomial.specs.Polynomial.{value};
 ghost use Rattle.polynomial.specs.Rows.{coefs};
 ghost use Rattle.codewords.specs.WellFormed.{InWidth};
@@ -44,15 +44,8 @@ fn deal_fault(p: words::Params, secret: &[u64], coefficients: &[u64], n: usize) 
 
 // The value at holder x's point, in words of 64 bits, of the polynomial with the secret for its free term and the t coefficients after it, by
 // Horner's rule.
-fn share_by(
-    d: usize,
-    low: [u64; 6],
-    secret: &[u64],
-    coefficients: &[u64],
-    t: usize,
-    x: u64,
-) -> [u64; 6]
-    requires { ⌜ ((2 ≤ d) × (d ≤ 6)) × (low ≡ held d (lower d)) × (t ≤ 63) × (length (now secret) ≡ d) × (length (now coefficients) ≡ t * d) ⌝ }
+fn share_by(d: usize, secret: &[u64], coefficients: &[u64], t: usize, x: u64) -> [u64; 6]
+    requires { ⌜ ((2 ≤ d) × (d ≤ 6)) × (t ≤ 63) × (length (now secret) ≡ d) × (length (now coefficients) ≡ t * d) ⌝ }
     ensures { λ r. ⌜ r ≡ held d (value 64 d (now (secret .entry) ∷ elementsOf d t (now (coefficients .entry))) (point d x)) ⌝ }
 {
     let mut r = [0u64; 6];
@@ -60,29 +53,22 @@ fn share_by(
     while 0 < i {
         i -= 1;
         let s = ring::sum(64, r, ring::load(d, coefficients, i * d));
-        r = ring::product_by_point(64, d, low, s, x);
+        r = ring::product_by_point(64, d, s, x);
     }
     ring::sum(64, r, ring::load(d, secret, 0))
 }
 
 // The same, with code for each d.
-fn share_at(
-    d: usize,
-    low: [u64; 6],
-    secret: &[u64],
-    coefficients: &[u64],
-    t: usize,
-    x: u64,
-) -> [u64; 6]
-    requires { ⌜ ((2 ≤ d) × (d ≤ 6)) × (low ≡ held d (lower d)) × (t ≤ 63) × (length (now secret) ≡ d) × (length (now coefficients) ≡ t * d) ⌝ }
+fn share_at(d: usize, secret: &[u64], coefficients: &[u64], t: usize, x: u64) -> [u64; 6]
+    requires { ⌜ ((2 ≤ d) × (d ≤ 6)) × (t ≤ 63) × (length (now secret) ≡ d) × (length (now coefficients) ≡ t * d) ⌝ }
     ensures { λ r. ⌜ r ≡ held d (value 64 d (now (secret .entry) ∷ elementsOf d t (now (coefficients .entry))) (point d x)) ⌝ }
 {
     match d {
-        2 => share_by(2, low, secret, coefficients, t, x),
-        3 => share_by(3, low, secret, coefficients, t, x),
-        4 => share_by(4, low, secret, coefficients, t, x),
-        5 => share_by(5, low, secret, coefficients, t, x),
-        _ => share_by(6, low, secret, coefficients, t, x),
+        2 => share_by(2, secret, coefficients, t, x),
+        3 => share_by(3, secret, coefficients, t, x),
+        4 => share_by(4, secret, coefficients, t, x),
+        5 => share_by(5, secret, coefficients, t, x),
+        _ => share_by(6, secret, coefficients, t, x),
     }
 }
 
@@ -92,11 +78,10 @@ fn write_shares(p: words::Params, secret: &[u64], coefficients: &[u64], out: &mu
         × (length (now coefficients) ≡ p .t * p .d) × (length (now out) ≡ p .n * p .d) ⌝ }
     ensures { λ _. ⌜ now (out .exit) ≡ dealt p (now (secret .entry)) (now (coefficients .entry)) ⌝ }
 {
-    let low = ring::lower_of(p.d);
     let mut at = 0;
     let mut x: u64 = 1;
     while at < out.len() {
-        let e = share_at(p.d, low, secret, coefficients, p.t, x);
+        let e = share_at(p.d, secret, coefficients, p.t, x);
         ring::store(p.d, out, at, ring::reduce(p.k, e));
         at += p.d;
         x += 1;

@@ -80,8 +80,8 @@ fn times_by(d: usize, low: [u64; 6], a: [u64; 6], b: [u64; 6]) -> [u64; 6]
 }
 
 // The same. In each arm d and its row are constants, from which the compiler can make code for that d, with no loop and no tests.
-pub fn times(d: usize, low: [u64; 6], a: [u64; 6], b: [u64; 6]) -> [u64; 6]
-    requires { ⌜ ((2 ≤ d) × (d ≤ 6)) × (low ≡ held d (lower d)) ⌝ }
+pub fn times(d: usize, a: [u64; 6], b: [u64; 6]) -> [u64; 6]
+    requires { ⌜ (2 ≤ d) × (d ≤ 6) ⌝ }
     ensures { λ r. ⌜ r ≡ timesLanes d a b ⌝ }
 {
     match d {
@@ -117,12 +117,26 @@ pub fn spread(a: [u64; 6], i: u64) -> [u64; 6]
 }
 
 // The set of the lanes that are not zero.
-pub fn support(d: usize, a: [u64; 6]) -> u64
+fn support_by(d: usize, a: [u64; 6]) -> u64
     requires { ⌜ d ≤ 6 ⌝ }
     ensures { λ r. ⌜ r ≡ supportOf d a ⌝ }
 {
     let w = ring::keep(d, a);
     w[0] | (w[1] | (w[2] | (w[3] | (w[4] | w[5]))))
+}
+
+// The same, with code for each d.
+pub fn support(d: usize, a: [u64; 6]) -> u64
+    requires { ⌜ (2 ≤ d) × (d ≤ 6) ⌝ }
+    ensures { λ r. ⌜ r ≡ supportOf d a ⌝ }
+{
+    match d {
+        2 => support_by(2, a),
+        3 => support_by(3, a),
+        4 => support_by(4, a),
+        5 => support_by(5, a),
+        _ => support_by(6, a),
+    }
 }
 
 // The bit x under the word w, whose bits move up one lane.

@@ -29,7 +29,7 @@ residues-requires c κs = search needs
 
 -- once the rows of what is left of the shares are written
 abbrev rows : tie.After-residues → Rows
-rows c = c .residues .last .1 .1 .1 .1 .1 .1 .1 .1 .0
+rows c = c .residues .last .1 .1 .1 .1 .1 .1 .1 .0
 
 left-of : (c : tie.After-residues) →
     (let s = c .before .before in
@@ -40,12 +40,12 @@ left-of c =
     let a = s .args in
     let p = s .pre in
     rest-left (a .k) (a .d) (a .t) (a .m) (p .1 .0) (p .1 .1) (a .hs .now) (a .ys .now) (a .p) (a .rest .now) (rows c)
-    (omega (arith, p .5)) (p .4) (p .6) (p .7) (p .8) (p .9) (p .10) (c .residues .ensures)
+    (omega (arith, p .4)) (p .3) (p .5) (p .6) (p .7) (p .8) (p .9) (c .residues .ensures)
 
 compare-requires : tie.Need-compare-requires
 compare-requires c κs =
     let b = c .before in
-    (b .before .before .pre .4, left-of b .holders-six, left-of b .sized-six)
+    (b .before .before .pre .3, left-of b .holders-six, left-of b .sized-six)
 
 -- once they are compared with zero
 abbrev start : tie.After-compare → tie.Start
@@ -60,7 +60,7 @@ bits-is : (c : tie.After-compare) →
 bits-is c = c .compare .ensures .1 ∙ left-of (c .before .before) .bits
 
 count-is : (c : tie.After-compare) → (let s = start c in ones (c .compare .result .set) ≡ errors (s .args .k) (s .args .d) (poly s) (shares s))
-count-is c = let s = start c in ap ones (set-is c) ∙ ones-of (s .args .k) (s .args .d) (poly s) (shares s) (s .pre .6)
+count-is c = let s = start c in ap ones (set-is c) ∙ ones-of (s .args .k) (s .args .d) (poly s) (shares s) (s .pre .5)
 
 cast-if1 : tie.Need-cast-if1
 cast-if1 c = omega (arith, ones-le 64 (c .before .compare .result .set) (omega arith))
@@ -90,7 +90,7 @@ low-bit c =
     let s = start (compared c) in
     let a = s .args in
     let p = s .pre in
-    let l = lowest-at (a .d) (p .1 .0) (p .1 .1) (a .k) (a .t) (poly s) (shares s) (p .0 .1) (p .8 .0) (p .7) (omega (arith, far c)) in
+    let l = lowest-at (a .d) (p .1 .0) (p .1 .1) (a .k) (a .t) (poly s) (shares s) (p .0 .1) (p .7 .0) (p .6) (omega (arith, far c)) in
     rw (bits-is (compared c)) (omega (arith, l .room, p .0 .1))
 
 decide-requires : tie.Need-decide-requires
@@ -98,7 +98,7 @@ decide-requires c κs =
     let f = c .before .before in
     let p = start (compared f) .pre in
     let o = left-of (compared f .before .before) in
-    (p .1, p .2, low-bit f, p .3, p .4, o .holders, o .sized, omega (arith, p .5))
+    (p .1, low-bit f, p .2, p .3, o .holders, o .sized, omega (arith, p .4))
 
 found : (c : tie.After-decide) →
     (let s = start (compared (c .before .before .before)) in

@@ -10,11 +10,11 @@ use Rattle.decoder.proofs.interpolate.Statement.{statement}
 use Rattle.decoder.proofs.interpolate.Tie as tie
 
 abbrev Inv-loop : tie.InvT-loop
-Inv-loop k d low t hs ys q₀ nodal₀ i₀ q nodal i =
+Inv-loop k d t hs ys q₀ nodal₀ i₀ q nodal i =
     (i ≤ t + 1) × Shaped q × Shaped nodal × ((h : 1 ≤ k) (dl : 2 ≤ d) (dh : d ≤ 6) → Passed k d h dl dh t hs ys i q nodal)
 
 abbrev μ-loop : tie.MeasureT-loop
-μ-loop k d low t hs ys q₀ nodal₀ i₀ q nodal i = i
+μ-loop k d t hs ys q₀ nodal₀ i₀ q nodal i = i
 
 clear-rows-requires : tie.Need-clear-rows-requires Inv-loop μ-loop
 clear-rows-requires c κs = search needs
@@ -62,13 +62,13 @@ loop-again c =
     let l = c .before .before .before .before .before .before in
     let s = l .before .before .before .before in
     let a = s .args in
-    let w = all-map (λ x w. w .0) (sharesOf (a .d) (suc (a .t)) (a .hs .now) (a .ys .now)) (s .pre .5) in
+    let w = all-map (λ x w. w .0) (sharesOf (a .d) (suc (a .t)) (a .hs .now) (a .ys .now)) (s .pre .4) in
     let e = c .extend .ensures in (
       omega arith,
       e .2,
       e .3,
       λ h dl dh. interpolate-turn (a .k) (a .d) h dl dh (a .t) (a .hs .now) (a .ys .now) w (l .loop .i) (omega arith) (l .loop .inv .0)
-          (l .loop .q) (l .loop .nodal) (c .extend .last .1 .1 .1 .0) (c .extend .last .1 .1 .1 .1 .0) (l .loop .inv .3 h dl dh) (e .0) (e .1),
+          (l .loop .q) (l .loop .nodal) (c .extend .last .1 .1 .0) (c .extend .last .1 .1 .1 .0) (l .loop .inv .3 h dl dh) (e .0) (e .1),
     )
 
 reduce-rows-requires : tie.Need-reduce-rows-requires Inv-loop μ-loop
@@ -81,7 +81,7 @@ returns c =
     let a = s .args in
     let p = s .pre in
     let e = c .reduce-rows .ensures in (
-      interpolate-end (a .k) (a .d) (p .0 .0) (p .1 .0) (p .1 .1) (a .t) (a .hs .now) (a .ys .now) (p .4) (p .5) (l .loop .i) (omega arith)
+      interpolate-end (a .k) (a .d) (p .0 .0) (p .1 .0) (p .1 .1) (a .t) (a .hs .now) (a .ys .now) (p .3) (p .4) (l .loop .i) (omega arith)
           (l .loop .q) (l .loop .nodal) (c .reduce-rows .last .1 .1 .0) (l .loop .inv .3 (p .0 .0) (p .1 .0) (p .1 .1)) (e .0),
       e .1,
       l .loop .inv .2,

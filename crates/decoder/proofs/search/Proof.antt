@@ -23,13 +23,13 @@ use Rattle.decoder.proofs.search.Statement.{statement}
 use Rattle.decoder.proofs.search.Tie as tie
 
 abbrev Inv-loop : tie.InvT-loop
-Inv-loop k d low t m hs₀ ys₀ e out₀ wrong₀ bound₀ count₀ rest₀ q₀ nodal₀ hs ys out wrong bound count rest q nodal =
+Inv-loop k d t m hs₀ ys₀ e out₀ wrong₀ bound₀ count₀ rest₀ q₀ nodal₀ hs ys out wrong bound count rest q nodal =
     (count ≤ 63) × (length hs ≡ 63) × (length ys ≡ 63) × (out ≡ out₀)
     × Sought k d t e (sharesOf d m hs₀ ys₀) bound wrong (sharesOf d count hs ys)
     × (length rest ≡ 63) × (take (suc t) rest ≡ replicate (suc t) zeroRow) × Shaped q × Shaped nodal
 
 abbrev μ-loop : tie.MeasureT-loop
-μ-loop k d low t m hs₀ ys₀ e out₀ wrong₀ bound₀ count₀ rest₀ q₀ nodal₀ hs ys out wrong bound count rest q nodal = bound
+μ-loop k d t m hs₀ ys₀ e out₀ wrong₀ bound₀ count₀ rest₀ q₀ nodal₀ hs ys out wrong bound count rest q nodal = bound
 
 -- the shares that are still in, at the head of the loop; there are t + 1 of them at least
 abbrev Head : Type 0
@@ -51,11 +51,11 @@ loop-holds : tie.Need-loop-holds Inv-loop μ-loop
 loop-holds c =
     let a = c .args in (
       omega arith,
+      c .pre .8,
       c .pre .9,
-      c .pre .10,
       refl,
-      start (a .d) (omega arith) (omega arith) (a .k) (a .t) (a .e) (sharesOf (a .d) (a .m) (a .hs .now) (a .ys .now)) (c .pre .6) (c .pre .7)
-          (c .pre .8) (rw (length-from (a .d) (a .hs .now) (a .ys .now) 0 (a .m)) (c .pre .5)),
+      start (a .d) (omega arith) (omega arith) (a .k) (a .t) (a .e) (sharesOf (a .d) (a .m) (a .hs .now) (a .ys .now)) (c .pre .5) (c .pre .6)
+          (c .pre .7) (rw (length-from (a .d) (a .hs .now) (a .ys .now) 0 (a .m)) (c .pre .4)),
       refl,
       take-zeros (suc (a .t)) 63 (omega arith),
       zero-shaped,
@@ -71,7 +71,7 @@ interpolate-requires c κs =
     let v = l .loop .inv in
     let h : Holders (a .d) (sharesOf (a .d) n (l .loop .hs) (l .loop .ys)) = rw (← first l) (holders-take (a .d) n (inside l) (v .4 .holders)) in
     let w : InWidth (a .k) (a .d) (sharesOf (a .d) n (l .loop .hs) (l .loop .ys)) = rw (← first l) (all-take (λ x y. y) n (inside l) (v .4 .width)) in
-    (s .pre .0, s .pre .1, s .pre .2, s .pre .3, h, w, v .7, v .8)
+    (s .pre .0, s .pre .1, s .pre .2, h, w, v .7, v .8)
 
 decode-level-requires : tie.Need-decode-level-requires Inv-loop μ-loop
 decode-level-requires c κs =
@@ -79,7 +79,7 @@ decode-level-requires c κs =
     let l = i .before .before .before .before .before in
     let p = l .before .pre in
     let v = l .loop .inv in
-    (p .0, p .1, p .2, p .3, v .0, enough l, v .4 .holders, v .4 .width, i .interpolate .ensures .0, v .5, v .6)
+    (p .0, p .1, p .2, v .0, enough l, v .4 .holders, v .4 .width, i .interpolate .ensures .0, v .5, v .6)
 
 -- what a level gave
 abbrev Given : Type 0
@@ -89,7 +89,7 @@ abbrev head : Given → Head
 head c = c .before .before .before .before .before .before .before .before .before
 
 abbrev rows : Given → Rows
-rows c = c .before .before .before .before .interpolate .last .1 .1 .1 .1 .1 .1 .0
+rows c = c .before .before .before .before .interpolate .last .1 .1 .1 .1 .1 .0
 
 level : (c : Given) (got : Found) → c .decode-level .result ≡ got →
     (let l = head c in

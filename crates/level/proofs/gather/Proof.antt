@@ -1,18 +1,19 @@
 -- `level::gather` meets its contract: after each turn the shares passed are looked at. Assumes nothing.
 use native.Mathlib.Omega.{arith}
 use borrow.Author.Needs.{needs}
-use mathlib.Core.Path.{_≡_, _∙_}
+use mathlib.Core.Path.{_≡_, ap}
 use Prim.Native.Nat.{_-_, _≤_}
-use Rattle.level.specs.Interpolation.{gatherLanes}
-use Rattle.level.proofs.Turns.{gather-start, gather-turn}
+use Rattle.level.specs.Interpolation.{Newton, newtonOf, gatherLanes}
+use Rattle.level.proofs.Turns.{gather-start, gather-turn, gather-end}
 use Rattle.level.proofs.gather.Statement.{statement}
 use Rattle.level.proofs.gather.Tie as tie
 
 abbrev Inv-loop : tie.InvT-loop
-Inv-loop d low xs t m trusted s₀ i₀ s i = (i ≤ m) × (s ≡ gatherLanes d xs t trusted s₀ m (m - i))
+Inv-loop d xs t m trusted gap₀ nodal₀ n₀ i₀ gap nodal n i =
+    (i ≤ m) × (newtonOf n gap nodal ≡ gatherLanes d xs t trusted (newtonOf n₀ gap₀ nodal₀) m (m - i))
 
 abbrev μ-loop : tie.MeasureT-loop
-μ-loop d low xs t m trusted s₀ i₀ s i = i
+μ-loop d xs t m trusted gap₀ nodal₀ n₀ i₀ gap nodal n i = i
 
 spread-requires : tie.Need-spread-requires Inv-loop μ-loop
 spread-requires c κs = search needs
@@ -27,29 +28,28 @@ sub-i c = search needs
 
 trust-requires : tie.Need-trust-requires Inv-loop μ-loop
 trust-requires c κs =
-    let l = c .before in
+    let l = c .before .before .before in
     let s = l .before .before in
-    ((omega arith, omega arith), s .pre .1, omega arith, omega (arith, l .loop .inv .0))
+    ((omega arith, omega arith), omega arith, omega (arith, l .loop .inv .0))
 
 loop-less : tie.Need-loop-less Inv-loop μ-loop
 loop-less c = search needs
 
 loop-again : tie.Need-loop-again Inv-loop μ-loop
 loop-again c =
-    let l = c .before .before in
-    let a = l .before .before .args in (
-      omega arith,
-      c .trust .ensures
-          ∙ gather-turn (a .d) (a .xs) (a .t) (a .trusted) (a .m) (l .loop .i) (omega arith) (l .loop .inv .0) _ (l .loop .s) (l .loop .inv .1),
-    )
+    let l = c .before .before .before .before in
+    let a = l .before .before .args in
+    let v = l .loop .inv in
+    (omega arith, gather-turn (a .d) (a .xs) (a .t) (a .trusted) (a .m) _ (l .loop .i) (omega arith) (v .0) (v .1) (c .trust .ensures))
 
 returns : tie.Need-returns Inv-loop μ-loop
 returns c =
     let l = c .before in
-    let a = l .before .before .args in
-    let f : a .m - l .loop .i ≡ a .m = omega arith in
-    l .loop .inv .1
-    ∙ (λ j. gatherLanes (a .d) (a .xs) (a .t) (a .trusted) (record { gap = a .ys; nodal = l .before .spread .ensures j; n = 0 }) (a .m) (f j))
+    let o = l .before in
+    let a = o .before .args in
+    let v = l .loop .inv in
+    let e = gather-end (a .d) (a .xs) (a .t) (a .trusted) (a .m) (a .gap .now) (l .loop .i) (o .spread .ensures) (omega arith) (v .1) in
+    (ap (λ (s : Newton). s .n) e, ap (λ (s : Newton). s .gap) e)
 
 pub gather-spec : {M : Type 1} → statement M
 gather-spec =

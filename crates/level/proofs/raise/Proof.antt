@@ -1,6 +1,6 @@
--- `level::raise` meets its contract. Assumes nothing.
+-- `level::raise` meets its contract: a turn for each of the pairs' two slices. Assumes nothing.
 use borrow.Author.Needs.{needs}
-use Rattle.level.proofs.Turns.{raised-by}
+use Rattle.level.proofs.Turns.{turned}
 use Rattle.level.proofs.raise.Statement.{statement}
 use Rattle.level.proofs.raise.Tie as tie
 
@@ -16,30 +16,25 @@ spread-requires-2 c κs = search needs
 spread-requires-3 : tie.Need-spread-requires-3
 spread-requires-3 c κs = search needs
 
-times-requires : tie.Need-times-requires
-times-requires c κs = search needs
+turn-requires : tie.Need-turn-requires
+turn-requires c κs = search needs
 
-times-requires-2 : tie.Need-times-requires-2
-times-requires-2 c κs = search needs
-
-mix-requires : tie.Need-mix-requires
-mix-requires c κs = search needs
-
-mix-requires-2 : tie.Need-mix-requires-2
-mix-requires-2 c κs = search needs
-
-add-d0 : tie.Need-add-d0
-add-d0 c = search needs
+turn-requires-2 : tie.Need-turn-requires-2
+turn-requires-2 c κs = search needs
 
 returns : tie.Need-returns
 returns c =
-    let m = c .before .before in
-    let v = m .before .before in
-    let e = v .before .before in
-    let w = e .before in
-    let a = w .before .before .before .before .before .before .args in
-    raised-by (a .d) (a .xs) (a .i) (a .p) _ _ _ _ _ _ _ _ (w .before .spread .ensures) (w .plus .ensures) (e .spread2 .ensures)
-    (v .before .spread3 .ensures) (v .times .ensures) (m .before .times2 .ensures) (m .mix .ensures) (c .before .mix2 .ensures)
+    let t = c .before .before .before in
+    let e = t .before .before .before in
+    let v = e .before .before in
+    let w = v .before .before in
+    let s = w .before in
+    let a = s .before .args in
+    let at = turned (a .d) (a .xs) (a .i) (a .vp .now) (a .vo .now) (s .spread .ensures) (w .plus .ensures) in
+    let by = at (v .spread2 .ensures) (e .spread3 .ensures) in
+    let x = by (a .vp .now) (a .vo .now) _ _ (t .turn .ensures) in
+    let y = by (a .bp .now) (a .bo .now) _ _ (c .turn2 .ensures) in
+    (x .0, y .0, x .1, y .1)
 
 pub raise-spec : {M : Type 1} → statement M
 raise-spec =
@@ -49,9 +44,6 @@ raise-spec =
     plus-requires
     spread-requires-2
     spread-requires-3
-    times-requires
-    times-requires-2
-    mix-requires
-    mix-requires-2
-    add-d0
+    turn-requires
+    turn-requires-2
     returns)

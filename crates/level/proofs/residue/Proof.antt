@@ -31,7 +31,7 @@ returns c =
     let n : a .t + 1 ≡ suc (a .t) = omega arith in
     c .keep .ensures
     ∙ ap (held (a .d)) (c .before .difference .ensures)
-    ∙ residue-by (a .k) (a .d) (omega arith) (omega arith) (suc (a .t)) (a .p .now) (s .pre .4) (a .x) (a .y) (c .before .before .eval .result) h
+    ∙ residue-by (a .k) (a .d) (omega arith) (omega arith) (suc (a .t)) (a .p .now) (s .pre .3) (a .x) (a .y) (c .before .before .eval .result) h
     (c .before .before .eval .ensures ∙ ap (λ l. held (a .d) (value (a .k) (a .d) (coefs (a .d) l (a .p .now)) (point (a .d) (a .x)))) n)
 
 pub residue-spec : {M : Type 1} → statement M

@@ -11,11 +11,11 @@ use Rattle.level.proofs.residues.Statement.{statement}
 use Rattle.level.proofs.residues.Tie as tie
 
 abbrev Inv-loop : tie.InvT-loop
-Inv-loop k d low t m hs ys rest₀ p i₀ rest i =
+Inv-loop k d t m hs ys rest₀ p i₀ rest i =
     (suc t ≤ i) × (i ≤ m) × (length rest ≡ 63) × (rest ≡ written k d (coefs d (suc t) p) (suc t) m hs ys rest₀ i)
 
 abbrev μ-loop : tie.MeasureT-loop
-μ-loop k d low t m hs ys rest₀ p i₀ rest i = m - i
+μ-loop k d t m hs ys rest₀ p i₀ rest i = m - i
 
 add-i : tie.Need-add-i Inv-loop μ-loop
 add-i c = search needs
@@ -23,7 +23,7 @@ add-i c = search needs
 loop-holds : tie.Need-loop-holds Inv-loop μ-loop
 loop-holds c =
     let a = c .args in
-    let p = coefs (a .d) (suc (a .t)) (a .t4) in
+    let p = coefs (a .d) (suc (a .t)) (a .t3) in
     let e : suc (a .t) ≡ a .t + 1 = omega arith in (
       omega arith,
       omega arith,
@@ -47,11 +47,11 @@ element-copy-out-residue-2 c = search needs
 residue-requires : tie.Need-residue-requires Inv-loop μ-loop
 residue-requires c κs =
     let s = c .before .before .before .before .before in
-    let h : length (s .args .t4) ≡ 64 = omega (arith, s .good) in
-    ((omega arith, omega arith), (omega arith, omega arith), s .pre .2, omega arith, shaped-good (s .args .t4) _ h (s .good .1 .1 .1 .0))
+    let h : length (s .args .t3) ≡ 64 = omega (arith, s .good) in
+    ((omega arith, omega arith), (omega arith, omega arith), omega arith, shaped-good (s .args .t3) _ h (s .good .1 .1 .0))
 
-mul-t23 : tie.Need-mul-t23 Inv-loop μ-loop
-mul-t23 c = search needs
+mul-t22 : tie.Need-mul-t22 Inv-loop μ-loop
+mul-t22 c = search needs
 
 element-set-from-rest : tie.Need-element-set-from-rest Inv-loop μ-loop
 element-set-from-rest c = search needs
@@ -66,7 +66,7 @@ loop-again : tie.Need-loop-again Inv-loop μ-loop
 loop-again c =
     let l = c .before .before .before .before .before in
     let a = l .before .args in
-    let p = coefs (a .d) (suc (a .t)) (a .t4) in (
+    let p = coefs (a .d) (suc (a .t)) (a .t3) in (
       omega arith,
       omega arith,
       length-set (l .loop .rest) (l .loop .i) (c .residue .result) ∙ l .loop .inv .2,
@@ -78,7 +78,7 @@ returns : tie.Need-returns Inv-loop μ-loop
 returns c =
     let l = c .before in
     let a = l .before .args in
-    let p = coefs (a .d) (suc (a .t)) (a .t4) in
+    let p = coefs (a .d) (suc (a .t)) (a .t3) in
     rest-end (a .k) (a .d) p (suc (a .t)) (a .m) (a .hs .now) (a .ys .now) (a .rest .now) (omega arith) (omega arith) (l .loop .i)
     (omega arith) (l .loop .rest) (l .loop .inv .3)
 
@@ -95,7 +95,7 @@ residues-spec =
     mul-residue-2
     element-copy-out-residue-2
     residue-requires
-    mul-t23
+    mul-t22
     element-set-from-rest
     add-i-2
     loop-less

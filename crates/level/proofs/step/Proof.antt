@@ -1,21 +1,26 @@
 -- `level::step` meets its contract: the pair that leads decides which of its three ends is reached. Assumes nothing.
-use native.Mathlib.Omega.{arith}
 use borrow.Author.Needs.{needs}
 use mathlib.Core.Path.{_≡_, _∙_, ap}
 use Rattle.algebra.proofs.KeyEquation.{Pivot, none, first, second}
-use Rattle.level.specs.KeyEquation.{leadOf, raised, swapped, moveLanes, stepLanes}
-use Rattle.level.proofs.Turns.{step-lead}
+use Rattle.level.specs.KeyEquation.{Pairs, pairsOf, leadOf, swapped, moveLanes, stepLanes}
+use Rattle.level.proofs.Turns.{step-lead, raised-by}
 use Rattle.level.proofs.step.Statement.{statement}
 use Rattle.level.proofs.step.Tie as tie
 
+-- the pairs at entry
+abbrev entered : tie.Start → Pairs
+entered s = let a = s .args in pairsOf (a .g) (a .v0 .now) (a .b0 .now) (a .v1 .now) (a .b1 .now)
+
 -- what the step is, by the pair that leads
 moved : (q : tie.After-choose) (x : Pivot) → q .choose .result ≡ leadOf x →
-    (let a = q .before .before .before .before .before .args in moveLanes (a .d) (a .xs) (a .i) x (a .p) ≡ stepLanes (a .d) (a .xs) (a .i) (a .p))
+    (let s = q .before .before .before .before .before in
+    moveLanes (s .args .d) (s .args .xs) (s .args .i) x (entered s) ≡ stepLanes (s .args .d) (s .args .xs) (s .args .i) (entered s))
 moved q x e =
-    let a = q .before .before .before .before .before .args in
-    let z₀ = q .before .before .zero-at in
-    let z₁ = q .before .zero-at2 in
-    step-lead (a .d) (a .xs) (a .i) (a .p) (z₀ .result) (z₁ .result) (q .choose .result) (z₀ .ensures) (z₁ .ensures) (q .choose .ensures) x e
+    let z₁ = q .before in
+    let z₀ = z₁ .before .before in
+    let s = z₀ .before .before in
+    let a = s .args in
+    step-lead (a .d) (a .xs) (a .i) (entered s) _ _ _ (z₀ .zero-at .ensures) (z₁ .zero-at2 .ensures) (q .choose .ensures) x e
 
 zero-at-requires : tie.Need-zero-at-requires
 zero-at-requires c κs = search needs
@@ -35,32 +40,36 @@ enum-told-2 c = search needs
 raise-requires : tie.Need-raise-requires
 raise-requires c κs = search needs
 
+add-t20 : tie.Need-add-t20
+add-t20 c = search needs
+
 enum-told-3 : tie.Need-enum-told-3
 enum-told-3 c = search needs
 
-swap-requires : tie.Need-swap-requires
-swap-requires c κs = search needs
-
 raise-requires-2 : tie.Need-raise-requires-2
-raise-requires-2 c κs =
-    let s = c .before .before .before .before .before .before .before .before in
-    ((omega arith, omega arith), s .pre .1, omega arith, rw (c .swap .ensures) (s .pre .4))
+raise-requires-2 c κs = search needs
 
-swap-requires-2 : tie.Need-swap-requires-2
-swap-requires-2 c κs = search needs
+add-t26 : tie.Need-add-t26
+add-t26 c = search needs
 
 returns : tie.Need-returns
 returns c = moved (c .before .before) none (c .enum-told .given .1)
 
 returns-2 : tie.Need-returns-2
-returns-2 c = c .raise .ensures ∙ moved (c .before .before .before) first (c .before .enum-told2 .given .1)
+returns-2 c =
+    let e = c .before .before .before .before .before .before in
+    let q = e .before .before in
+    let s = q .before .before .before .before .before in
+    let a = s .args in
+    raised-by (a .d) (a .xs) (a .i) (entered s) (c .before .raise .ensures) ∙ moved q first (e .enum-told2 .given .1)
 
 returns-3 : tie.Need-returns-3
 returns-3 c =
-    let a = c .before .before .before .before .before .before .before .before .before .before .args in
-    c .swap2 .ensures
-    ∙ ap swapped (c .before .raise2 .ensures ∙ ap (raised (a .d) (a .xs) (a .i)) (c .before .before .swap .ensures))
-    ∙ moved (c .before .before .before .before .before) second (c .before .before .before .enum-told3 .given .1)
+    let e = c .before .before .before .before .before .before in
+    let q = e .before .before in
+    let s = q .before .before .before .before .before in
+    let a = s .args in
+    ap swapped (raised-by (a .d) (a .xs) (a .i) (swapped (entered s)) (c .before .raise2 .ensures)) ∙ moved q second (e .enum-told3 .given .1)
 
 pub step-spec : {M : Type 1} → statement M
 step-spec =
@@ -72,10 +81,10 @@ step-spec =
     enum-told
     enum-told-2
     raise-requires
+    add-t20
     enum-told-3
-    swap-requires
     raise-requires-2
-    swap-requires-2
+    add-t26
     returns
     returns-2
     returns-3)

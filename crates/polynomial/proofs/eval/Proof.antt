@@ -22,7 +22,7 @@ returns c =
     let p = s .args .p .now in
     c .reduce .ensures
     ∙ rw (c .before .eval64 .ensures)
-    (narrow-value {j = s .args .k} (omega arith) d (omega arith) (omega arith) (s .args .len) p (point d (s .args .x)) (shaped-all p (s .pre .4))
+    (narrow-value {j = s .args .k} (omega arith) d (omega arith) (omega arith) (s .args .len) p (point d (s .args .x)) (shaped-all p (s .pre .3))
     (length-point d (s .args .x)))
 
 pub eval-spec : {M : Type 1} → statement M

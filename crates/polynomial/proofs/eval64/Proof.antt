@@ -1,35 +1,24 @@
 -- `polynomial::eval64` meets its contract: in each arm the loop's contract at that d. Assumes nothing.
 use native.Mathlib.Omega.{arith}
-use mathlib.Core.Path.{_≡_}
-use Prim.Native.Nat.{ℕ, _≤_}
+use borrow.Author.Needs.{needs}
 use Rattle.words.proofs.InRange.{six}
-use Rattle.galois.specs.Element.{held, lower}
-use Rattle.polynomial.specs.Rows.{Shaped}
 use Rattle.polynomial.proofs.eval64.Statement.{statement}
 use Rattle.polynomial.proofs.eval64.Tie as tie
 
--- what the loop's call asks, at each d
-asked : (s : tie.Start) (n : ℕ) → s .args .d ≡ n → 2 ≤ n → n ≤ 6
-    → ((2 ≤ n) × (n ≤ 6)) × (s .args .low ≡ held n (lower n)) × (s .args .len ≤ 64) × Shaped (s .args .p .now)
-asked s n e l h = ((l, h), rw e at (s .pre .1), s .pre .2, s .pre .3)
-
 horner-requires : tie.Need-horner-requires
-horner-requires c κs = asked (c .before) 2 (c .match .keys1) (omega arith) (omega arith)
+horner-requires c κs = search needs
 
 horner-requires-2 : tie.Need-horner-requires-2
-horner-requires-2 c κs = asked (c .before) 3 (c .match .keys2) (omega arith) (omega arith)
+horner-requires-2 c κs = search needs
 
 horner-requires-3 : tie.Need-horner-requires-3
-horner-requires-3 c κs = asked (c .before) 4 (c .match .keys3) (omega arith) (omega arith)
+horner-requires-3 c κs = search needs
 
 horner-requires-4 : tie.Need-horner-requires-4
-horner-requires-4 c κs = asked (c .before) 5 (c .match .keys4) (omega arith) (omega arith)
+horner-requires-4 c κs = search needs
 
 horner-requires-5 : tie.Need-horner-requires-5
-horner-requires-5 c κs =
-    let r = c .match .rest in
-    let d = c .before .args .d in
-    asked (c .before) 6 (six d (omega arith) (omega arith) (r .0 .0 .0 .1) (r .0 .0 .1) (r .0 .1) (r .1)) (omega arith) (omega arith)
+horner-requires-5 c κs = search needs
 
 returns : tie.Need-returns
 returns c = rw (c .before .match .keys1) (c .horner .ensures)

@@ -61,18 +61,18 @@ returns c =
     let hy : length (s .args .y) ≡ 6 = omega (arith, s .good) in
     let ly : length y ≡ d = length-take-le d (s .args .y) (omega arith) in
     let lx : length x ≡ d = length-point d (s .args .x) in
-    let aq = shaped-all q (s .pre .4) in
-    let al = shaped-all l (s .pre .5) in
+    let aq = shaped-all q (s .pre .3) in
+    let al = shaped-all l (s .pre .4) in
     let e = excessBy k 64 d n q l x y in
-    let r : m .subtract-multiple .last .1 .1 .0 ≡ subtractRows 64 d (n + 1) q e l =
+    let r : m .subtract-multiple .last .1 .0 ≡ subtractRows 64 d (n + 1) q e l =
     extend-calls 64 d (omega arith) (omega arith) k n q l _ x (s .args .y) _ _ _ _ _
     (value-length 64 d (omega arith) (omega arith) n q x aq lx) (value-length 64 d (omega arith) (omega arith) (n + 1) l x al lx)
     (b .before .before .before .before .before .eval64 .ensures) (b .before .before .before .eval642 .ensures)
     (b .before .before .inverse-of .ensures) (b .before .difference .ensures) (b .product .ensures) (m .subtract-multiple .ensures) in (
       rw r (extend-narrow {j = k} (omega arith) d (omega arith) (omega arith) n q l x y aq al lx ly),
       rw (c .root .ensures) (root-narrow {j = k} (omega arith) d (omega arith) (omega arith) (n + 2) x l lx al),
-      rw r (subtract-shaped 64 d (omega arith) (omega arith) (n + 1) q e l (s .pre .4) (s .pre .5)),
-      rw (c .root .ensures) (root-shaped 64 d (omega arith) (omega arith) (n + 2) x l (s .pre .5)),
+      rw r (subtract-shaped 64 d (omega arith) (omega arith) (n + 1) q e l (s .pre .3) (s .pre .4)),
+      rw (c .root .ensures) (root-shaped 64 d (omega arith) (omega arith) (n + 2) x l (s .pre .4)),
     )
 
 pub extend-spec : {M : Type 1} → statement M

@@ -16,17 +16,17 @@ use Rattle.polynomial.proofs.horner.Statement.{statement}
 use Rattle.polynomial.proofs.horner.Tie as tie
 
 abbrev Inv-loop : tie.InvT-loop
-Inv-loop d low p len x i₀ r₀ i r = (i < len) × (length r ≡ 6) × (reduce 64 (take d r) ≡ value 64 d (drop i (coefs d len p)) (point d x))
+Inv-loop d p len x i₀ r₀ i r = (i < len) × (length r ≡ 6) × (reduce 64 (take d r) ≡ value 64 d (drop i (coefs d len p)) (point d x))
 
 abbrev μ-loop : tie.MeasureT-loop
-μ-loop d low p len x i₀ r₀ i r = i
+μ-loop d p len x i₀ r₀ i r = i
 
 returns : tie.Need-returns Inv-loop μ-loop
 returns c =
     let s = c .before in
     let d = s .args .d in
     let p = s .args .p .now in
-    let hp : length p ≡ 64 = shaped-length p (s .pre .3) in
+    let hp : length p ≡ 64 = shaped-length p (s .pre .2) in
     eval-none 64 d (omega arith) (omega arith) (s .args .len) p (omega arith) (point d (s .args .x)) (c .if1 .taken)
 
 sub-i : tie.Need-sub-i Inv-loop μ-loop
@@ -44,8 +44,8 @@ loop-holds c =
     let d = s .args .d in
     let n = s .args .len in
     let p = s .args .p .now in
-    let hp : length p ≡ 64 = shaped-length p (s .pre .3) in
-    let hl : length (getD p (n - 1) []) ≡ 6 = shaped-row p (n - 1) (s .pre .3) (omega arith) in (
+    let hp : length p ≡ 64 = shaped-length p (s .pre .2) in
+    let hl : length (getD p (n - 1) []) ≡ 6 = shaped-row p (n - 1) (s .pre .2) (omega arith) in (
       omega arith,
       hl,
       eval-start 64 d (omega arith) (omega arith) n p (omega arith) (point d (s .args .x)) (length-point d (s .args .x)) (omega arith) hl,
@@ -79,8 +79,8 @@ loop-again c =
     let x = point (s .args .d) (s .args .x) in
     let r = l .loop .r in
     let i = l .loop .i in
-    let hp : length p ≡ 64 = shaped-length p (s .pre .3) in
-    let ha : length (getD p (i - 1) []) ≡ 6 = shaped-row p (i - 1) (s .pre .3) (omega arith) in (
+    let hp : length p ≡ 64 = shaped-length p (s .pre .2) in
+    let ha : length (getD p (i - 1) []) ≡ 6 = shaped-row p (i - 1) (s .pre .2) (omega arith) in (
       omega arith,
       rw (c .sum .ensures, c .before .before .product-by-point .ensures)
           (eval-length 64 d (omega arith) (omega arith) n p (omega arith) x (getD p (i - 1) []) r ha (l .loop .inv .1)),
@@ -99,7 +99,7 @@ returns-2 c =
     let d = s .args .d in
     let p = s .args .p .now in
     let v = value 64 d (coefs d (s .args .len) p) (point d (s .args .x)) in
-    let hp : length p ≡ 64 = shaped-length p (s .pre .3) in
+    let hp : length p ≡ 64 = shaped-length p (s .pre .2) in
     let e : l .loop .i ≡ 0 = omega arith in
     let q : reduce 64 (take d (l .loop .r)) ≡ v = rw e at (l .loop .inv .2) in
     eval-end 64 d (omega arith) (omega arith) (s .args .len) p (omega arith) (point d (s .args .x)) (c .keep .result) (l .loop .r) v

@@ -17,11 +17,11 @@ use Rattle.polynomial.proofs.root_by.Statement.{statement}
 use Rattle.polynomial.proofs.root_by.Tie as tie
 
 abbrev Inv-loop : tie.InvT-loop
-Inv-loop d low p₀ x len below₀ i₀ p below i =
+Inv-loop d p₀ x len below₀ i₀ p below i =
     (i ≤ len) × (length below ≡ 6) × (below ≡ getD (replicate 6 0 ∷ p₀) i []) × (p ≡ paste p₀ 0 (rootRows 64 d len (point d x) p₀) i)
 
 abbrev μ-loop : tie.MeasureT-loop
-μ-loop d low p₀ x len below₀ i₀ p below i = len - i
+μ-loop d p₀ x len below₀ i₀ p below i = len - i
 
 loop-holds : tie.Need-loop-holds Inv-loop μ-loop
 loop-holds c = (search needs, refl, refl, refl)
@@ -41,8 +41,8 @@ difference-requires c κs = search needs
 keep-requires : tie.Need-keep-requires Inv-loop μ-loop
 keep-requires c κs = search needs
 
-mul-t11 : tie.Need-mul-t11 Inv-loop μ-loop
-mul-t11 c = search needs
+mul-t10 : tie.Need-mul-t10 Inv-loop μ-loop
+mul-t10 c = search needs
 
 element-set-from-p : tie.Need-element-set-from-p Inv-loop μ-loop
 element-set-from-p c = search needs
@@ -62,9 +62,9 @@ loop-again c =
     let x = point (s .args .d) (s .args .x) in
     let p = s .args .p .now in
     let i = l .loop .i in
-    let hp : length p ≡ 64 = shaped-length p (s .pre .3) in
+    let hp : length p ≡ 64 = shaped-length p (s .pre .2) in
     let hs : length (rootRows 64 d n x p) ≡ length p = length-change (lessTimes 64 d x) n (replicate 6 0 ∷ p) p in
-    let rp : length (getD p i []) ≡ 6 = shaped-row p i (s .pre .3) (omega arith) in
+    let rp : length (getD p i []) ≡ 6 = shaped-row p i (s .pre .2) (omega arith) in
     let ahead : getD (l .loop .p) i [] ≡ getD p i [] = fill-ahead p (rootRows 64 d n x p) (l .loop .p) i [] (l .loop .inv .3) (omega arith) in (
       omega arith,
       ap length ahead ∙ rp,
@@ -95,7 +95,7 @@ root-by-spec =
     product-by-point-requires
     difference-requires
     keep-requires
-    mul-t11
+    mul-t10
     element-set-from-p
     add-i
     loop-less

@@ -14,10 +14,10 @@ use Rattle.polynomial.proofs.subtract_by.Statement.{statement}
 use Rattle.polynomial.proofs.subtract_by.Tie as tie
 
 abbrev Inv-loop : tie.InvT-loop
-Inv-loop d low p₀ e q len i₀ p i = (i ≤ len) × (p ≡ paste p₀ 0 (subtractRows 64 d len p₀ (take d e) q) i)
+Inv-loop d p₀ e q len i₀ p i = (i ≤ len) × (p ≡ paste p₀ 0 (subtractRows 64 d len p₀ (take d e) q) i)
 
 abbrev μ-loop : tie.MeasureT-loop
-μ-loop d low p₀ e q len i₀ p i = len - i
+μ-loop d p₀ e q len i₀ p i = len - i
 
 loop-holds : tie.Need-loop-holds Inv-loop μ-loop
 loop-holds c = (search needs, refl)
@@ -43,8 +43,8 @@ difference-requires c κs = search needs
 keep-requires : tie.Need-keep-requires Inv-loop μ-loop
 keep-requires c κs = search needs
 
-mul-t18 : tie.Need-mul-t18 Inv-loop μ-loop
-mul-t18 c = search needs
+mul-t17 : tie.Need-mul-t17 Inv-loop μ-loop
+mul-t17 c = search needs
 
 element-set-from-p : tie.Need-element-set-from-p Inv-loop μ-loop
 element-set-from-p c = search needs
@@ -63,10 +63,10 @@ loop-again c =
     let p = s .args .p .now in
     let q = s .args .q .now in
     let i = l .loop .i in
-    let hp : length p ≡ 64 = shaped-length p (s .pre .3) in
-    let hq : length q ≡ 64 = shaped-length q (s .pre .4) in
-    let rp : length (getD p i []) ≡ 6 = shaped-row p i (s .pre .3) (omega arith) in
-    let rq : length (getD q i []) ≡ 6 = shaped-row q i (s .pre .4) (omega arith) in (
+    let hp : length p ≡ 64 = shaped-length p (s .pre .2) in
+    let hq : length q ≡ 64 = shaped-length q (s .pre .3) in
+    let rp : length (getD p i []) ≡ 6 = shaped-row p i (s .pre .2) (omega arith) in
+    let rq : length (getD q i []) ≡ 6 = shaped-row q i (s .pre .3) (omega arith) in (
       omega arith,
       rw (c .keep .ensures, c .before .difference .ensures, c .before .before .before .product .ensures)
           (subtract-turn 64 d (omega arith) (omega arith) (s .args .len) p (take d (s .args .e)) q (l .loop .p) i
@@ -95,7 +95,7 @@ subtract-by-spec =
     element-copy-out-difference
     difference-requires
     keep-requires
-    mul-t18
+    mul-t17
     element-set-from-p
     add-i
     loop-less

@@ -42,23 +42,20 @@ returns c =
 load-requires : tie.Need-load-requires
 load-requires c κs = let k = known c in ((k .range .d-low, k .range .d-high), omega arith)
 
-lower-of-requires : tie.Need-lower-of-requires
-lower-of-requires c κs = let k = known (c .before .before) in (k .range .d-low, k .range .d-high)
-
 inverse-of-requires : tie.Need-inverse-of-requires
 inverse-of-requires c κs =
-    let k = known (c .before .before .before) in
-    ((k .range .k-low, k .range .k-high), (k .range .d-low, k .range .d-high), c .lower-of .ensures)
+    let k = known (c .before .before) in
+    ((k .range .k-low, k .range .k-high), (k .range .d-low, k .range .d-high))
 
 store-requires : tie.Need-store-requires
-store-requires c κs = let k = known (c .before .before .before .before) in ((k .range .d-low, k .range .d-high), omega arith)
+store-requires c κs = let k = known (c .before .before .before) in ((k .range .d-low, k .range .d-high), omega arith)
 
 same-length : tie.Need-same-length
 same-length c = search needs
 
 returns-2 : tie.Need-returns-2
 returns-2 c =
-    let e = c .before .before .before .before .before .before .before in
+    let e = c .before .before .before .before .before .before in
     let s = S e in
     let k = known e in
     let d = s .args .p .d in
@@ -66,7 +63,7 @@ returns-2 c =
     let w = inverse (s .args .p .k) d x in
     let v : c .before .before .before .inverse-of .result ≡ held d w =
     c .before .before .before .inverse-of .ensures
-    ∙ rw (c .before .before .before .before .before .before .load .ensures, held-take d x (k .a-length)) in (
+    ∙ rw (c .before .before .before .before .before .load .ensures, held-take d x (k .a-length)) in (
       sym (no-fault e),
       c .before .before .store .ensures
           ∙ stored d (s .args .out .now) _ w (k .out-length) v (length-inverse (s .args .p .k) d x)
@@ -80,7 +77,6 @@ invert-spec =
     operands-fault-requires
     returns
     load-requires
-    lower-of-requires
     inverse-of-requires
     store-requires
     same-length

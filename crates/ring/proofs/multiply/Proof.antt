@@ -43,23 +43,20 @@ load-requires c κs = let k = known c in ((k .range .d-low, k .range .d-high), o
 load-requires-2 : tie.Need-load-requires-2
 load-requires-2 c κs = let k = known (c .before) in ((k .range .d-low, k .range .d-high), omega arith)
 
-lower-of-requires : tie.Need-lower-of-requires
-lower-of-requires c κs = let k = known (c .before .before .before) in (k .range .d-low, k .range .d-high)
-
 product-requires : tie.Need-product-requires
 product-requires c κs =
-    let k = known (c .before .before .before .before) in
-    ((k .range .k-low, k .range .k-high), (k .range .d-low, k .range .d-high), c .lower-of .ensures)
+    let k = known (c .before .before .before) in
+    ((k .range .k-low, k .range .k-high), (k .range .d-low, k .range .d-high))
 
 store-requires : tie.Need-store-requires
-store-requires c κs = let k = known (c .before .before .before .before .before) in ((k .range .d-low, k .range .d-high), omega arith)
+store-requires c κs = let k = known (c .before .before .before .before) in ((k .range .d-low, k .range .d-high), omega arith)
 
 same-length : tie.Need-same-length
 same-length c = search needs
 
 returns-2 : tie.Need-returns-2
 returns-2 c =
-    let e = c .before .before .before .before .before .before .before .before in
+    let e = c .before .before .before .before .before .before .before in
     let s = S e in
     let k = known e in
     let d = s .args .p .d in
@@ -70,8 +67,8 @@ returns-2 c =
     let v : c .before .before .before .product .result ≡ held d w =
     c .before .before .before .product .ensures
     ∙ rw (
-      c .before .before .before .before .before .before .before .load .ensures,
-      c .before .before .before .before .before .before .load2 .ensures,
+      c .before .before .before .before .before .before .load .ensures,
+      c .before .before .before .before .before .load2 .ensures,
       held-take d x (k .a-length),
       held-take d y (k .b-length),
     ) in
@@ -87,7 +84,6 @@ multiply-spec =
     returns
     load-requires
     load-requires-2
-    lower-of-requires
     product-requires
     store-requires
     same-length

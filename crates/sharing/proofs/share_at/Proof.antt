@@ -4,15 +4,14 @@ use mathlib.Core.Path.{_≡_, _∙_}
 use Prim.Native.Nat.{ℕ, _*_, _≤_}
 use lib.ListN.{length}
 use Rattle.words.proofs.InRange.{six}
-use Rattle.galois.specs.Element.{held, lower}
 use Rattle.sharing.proofs.share_at.Statement.{statement}
 use Rattle.sharing.proofs.share_at.Tie as tie
 
 -- what the loop's call asks, at each d
 asked : (s : tie.Start) (n : ℕ) → s .args .d ≡ n → 2 ≤ n → n ≤ 6
-    → ((2 ≤ n) × (n ≤ 6)) × (s .args .low ≡ held n (lower n)) × (s .args .t ≤ 63) × (length (s .args .secret .now) ≡ n)
+    → ((2 ≤ n) × (n ≤ 6)) × (s .args .t ≤ 63) × (length (s .args .secret .now) ≡ n)
     × (length (s .args .coefficients .now) ≡ s .args .t * n)
-asked s n e l h = ((l, h), rw e at (s .pre .1), s .pre .2, s .pre .3 ∙ e, rw e at (s .pre .4))
+asked s n e l h = ((l, h), s .pre .1, s .pre .2 ∙ e, rw e at (s .pre .3))
 
 share-by-requires : tie.Need-share-by-requires
 share-by-requires c κs = asked (c .before .before .before) 2 (c .match .keys1) (omega arith) (omega arith)

@@ -12,17 +12,17 @@ use Rattle.sharing.proofs.share_by.Statement.{statement}
 use Rattle.sharing.proofs.share_by.Tie as tie
 
 abbrev Inv-loop : tie.InvT-loop
-Inv-loop d low secret coefficients t x r₀ i₀ r i = (i ≤ t) × (r ≡ held d (above 64 d (point d x) (elementsFrom d t coefficients i)))
+Inv-loop d secret coefficients t x r₀ i₀ r i = (i ≤ t) × (r ≡ held d (above 64 d (point d x) (elementsFrom d t coefficients i)))
 
 abbrev μ-loop : tie.MeasureT-loop
-μ-loop d low secret coefficients t x r₀ i₀ r i = i
+μ-loop d secret coefficients t x r₀ i₀ r i = i
 
 loop-holds : tie.Need-loop-holds Inv-loop μ-loop
 loop-holds c =
     let s = c .before .before in
     let d = s .args .d in
     let x = s .args .x in
-    (search needs, horner-start 64 d (omega arith) (omega arith) (point d x) (length-point d x) (s .args .t) (s .args .coefficients .now) (s .pre .4))
+    (search needs, horner-start 64 d (omega arith) (omega arith) (point d x) (length-point d x) (s .args .t) (s .args .coefficients .now) (s .pre .3))
 
 sub-i : tie.Need-sub-i Inv-loop μ-loop
 sub-i c = search needs
@@ -59,7 +59,7 @@ loop-again c =
       omega arith,
       c .product-by-point .ensures
           ∙ rw (c .before .sum .ensures, c .before .before .load .ensures)
-          (horner-turn 64 d (omega arith) (omega arith) (point d x) (length-point d x) (s .args .t) (s .args .coefficients .now) (s .pre .4)
+          (horner-turn 64 d (omega arith) (omega arith) (point d x) (length-point d x) (s .args .t) (s .args .coefficients .now) (s .pre .3)
           (l .loop .r) (l .loop .i) (omega arith) (omega arith) (l .loop .inv .1)),
     )
 
@@ -78,8 +78,8 @@ returns c =
     let e : l .loop .i ≡ 0 = omega arith in
     c .sum2 .ensures
     ∙ rw (c .before .load2 .ensures)
-    (horner-end 64 d (omega arith) (omega arith) (point d x) (length-point d x) (s .args .t) (s .args .coefficients .now) (s .pre .4)
-    (s .args .secret .now) (l .loop .r) (s .pre .3) (rw e at (l .loop .inv .1)))
+    (horner-end 64 d (omega arith) (omega arith) (point d x) (length-point d x) (s .args .t) (s .args .coefficients .now) (s .pre .3)
+    (s .args .secret .now) (l .loop .r) (s .pre .2) (rw e at (l .loop .inv .1)))
 
 pub share-by-spec : {M : Type 1} → statement M
 share-by-spec =

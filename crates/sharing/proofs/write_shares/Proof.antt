@@ -20,7 +20,7 @@ use Rattle.sharing.proofs.write_shares.Statement.{statement}
 use Rattle.sharing.proofs.write_shares.Tie as tie
 
 abbrev Inv-loop : tie.InvT-loop
-Inv-loop p secret coefficients out₀ low at₀ x₀ out at x =
+Inv-loop p secret coefficients out₀ at₀ x₀ out at x =
     (1 ≤ x)
     × (x ≤ p .n + 1)
     × (at ≡ (x - 1) * p .d)
@@ -28,7 +28,7 @@ Inv-loop p secret coefficients out₀ low at₀ x₀ out at x =
     × (length out ≡ length out₀)
 
 abbrev μ-loop : tie.MeasureT-loop
-μ-loop p secret coefficients out₀ low at₀ x₀ out at x = p .n + 1 - x
+μ-loop p secret coefficients out₀ at₀ x₀ out at x = p .n + 1 - x
 
 -- the polynomial, that its coefficients have d words each, and what is to be written
 abbrev Q : tie.Start Inv-loop μ-loop → Polynomial
@@ -40,19 +40,16 @@ rows s = (s .pre .3, elements-rows (s .args .p .d) (s .args .p .t) (s .args .coe
 abbrev S : tie.Start Inv-loop μ-loop → List ℕ
 S s = dealtFrom (s .args .p .k) (s .args .p .d) (Q s) (s .args .p .n) 1
 
-lower-of-requires : tie.Need-lower-of-requires Inv-loop μ-loop
-lower-of-requires c κs = search needs
-
 loop-holds : tie.Need-loop-holds Inv-loop μ-loop
 loop-holds c =
-    let s = c .before .before .before .before in
+    let s = c .before .before .before in
     (omega arith, omega arith, sym (zero-mul (s .args .p .d)), paste-zero (s .args .out .now) 0 (S s), refl)
 
 -- in the loop the holder is one of the n
-holder : (c : tie.In-loop Inv-loop μ-loop) → let l = c .before in l .loop .x - 1 < l .before .before .before .before .before .args .p .n
+holder : (c : tie.In-loop Inv-loop μ-loop) → let l = c .before in l .loop .x - 1 < l .before .before .before .before .args .p .n
 holder c =
     let l = c .before in
-    let s = l .before .before .before .before .before in
+    let s = l .before .before .before .before in
     lt-of-mul-lt-mul-right (s .args .p .d) (omega (arith, c .loop-test .taken, l .loop .inv .2, l .loop .inv .4, s .pre .5))
 
 share-at-requires : tie.Need-share-at-requires Inv-loop μ-loop
@@ -65,14 +62,14 @@ store-requires : tie.Need-store-requires Inv-loop μ-loop
 store-requires c κs =
     let w = c .before .before .before in
     let l = w .before in
-    let s = l .before .before .before .before .before in
+    let s = l .before .before .before .before in
     ((omega arith, omega arith), omega (arith, mul-le-mul-right (s .args .p .d) (holder w), l .loop .inv .2, l .loop .inv .4, s .pre .5))
 
 add-at : tie.Need-add-at Inv-loop μ-loop
 add-at c =
     let w = c .before .before .before .before .before .before .before in
     let l = w .before in
-    let s = l .before .before .before .before .before in
+    let s = l .before .before .before .before in
     let h : l .loop .x - 1 ≤ 63 = omega (arith, holder w) in
     omega (arith, mul-le-mul-right (s .args .p .d) h, l .loop .inv .2)
 
@@ -91,7 +88,7 @@ loop-again c =
     let v = c .before .before .before .before .before .before in
     let w = v .before in
     let l = w .before in
-    let s = l .before .before .before .before .before in
+    let s = l .before .before .before .before in
     let k = s .args .p .k in
     let d = s .args .p .d in
     let n = s .args .p .n in
@@ -128,7 +125,7 @@ returns : tie.Need-returns Inv-loop μ-loop
 unfolding dealt dealing
 returns c =
     let l = c .before in
-    let s = l .before .before .before .before .before in
+    let s = l .before .before .before .before in
     let p = s .args .p in
     let hs : length (S s) ≡ p .n * p .d = shares-length (p .k) (p .d) (omega arith) (omega arith) (Q s) (rows s) (p .n) 1 in
     let hx : l .loop .x - 1 ≤ p .n = omega (arith, l .loop .inv .1) in
@@ -142,7 +139,6 @@ write-shares-spec =
     (tie.spec
     Inv-loop
     μ-loop
-    lower-of-requires
     loop-holds
     share-at-requires
     reduce-requires
