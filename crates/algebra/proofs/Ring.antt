@@ -1,7 +1,7 @@
 -- What follows from the laws of a commutative ring; the rules by which `simp ring` proves identities between sums of products; units.
 -- Assumes nothing.
 use mathlib.Core.Path.{_≡_, sym, _∙_, ap}
-use mathlib.Core.Bool.{Bool, true, false, true≢false}
+use mathlib.Core.Bool.{true, false, true≢false}
 use mathlib.Core.Logic.{_≢_}
 use Rattle.algebra.specs.Ring.{CommRing, DiscreteRing, Unit-of, Hom}
 

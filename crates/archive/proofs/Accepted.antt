@@ -1,20 +1,19 @@
 -- What the loops over an accepted bundle know of it: the ranges of its first heading, its number of files, its order's error bound.
 -- Assumes nothing.
-use mathlib.Core.Path.{_≡_, sym, ap, _∙_, subst}
-use mathlib.Core.List.{List, [], _∷_}
-use Prim.Native.Nat.{ℕ, zero, suc, _+_, _*_, _^_, _≤_, _<_}
+use mathlib.Core.Path.{_≡_, sym, subst}
+use mathlib.Core.List.{List}
+use Prim.Native.Nat.{ℕ, _^_, _≤_, _<_}
 use native.Mathlib.Nat.{pow-le-pow-right}
 use native.Mathlib.Omega.{arith}
 use lib.Dec.{lit<}
-use lib.ListN.{length, getD, take, drop}
+use lib.ListN.{length, getD}
 use lib.Seq.{drop-cons}
 use Rattle.records.specs.Num.{leAt, leNum, part}
-use Rattle.records.specs.Layout.{recordSize, bodyAt, orderSize}
+use Rattle.records.specs.Layout.{orderSize}
 use Rattle.bundle.specs.Bundle.{bundleFault, bundleHeading, filesOf}
 use Rattle.records.specs.declared.Heading.{Heading}
 use Rattle.bundle.proofs.Headings.{Ranges}
-use Rattle.bundle.proofs.Accepted.{Accepted, accepted, bundle-ranges, bundle-within, files-few}
-use Rattle.archive.specs.Archive.{allowanceOf}
+use Rattle.bundle.proofs.Accepted.{accepted, bundle-ranges, bundle-within, files-few}
 
 module _ (bs : List ℕ) (z : bundleFault bs ≡ 0) where
   pub ranges : (h : Heading) → h ≡ bundleHeading bs → Ranges h

@@ -1,13 +1,12 @@
 -- The shares of a bundle in arrays, as the decoder is asked about them. Assumes nothing.
-use mathlib.Core.Path.{_≡_, refl, sym, ap, ap₂, _∙_}
+use mathlib.Core.Path.{_≡_, refl, ap, ap₂, _∙_}
 use mathlib.Core.List.{List, [], _∷_, _++_}
-use Prim.Native.Nat.{ℕ, zero, suc, _+_, _≤_, _<_}
+use Prim.Native.Nat.{ℕ, zero, suc, _+_, _<_}
 use native.Mathlib.Omega.{arith}
 use lib.ListN.{length, take, getD, List·getD-append}
 use Rattle.galois.specs.Element.{Element, held}
 use Rattle.galois.proofs.Held.{held-take}
 use Rattle.polynomial.specs.Rows.{Rows}
-use Rattle.codewords.specs.Codeword.{Share}
 use Rattle.level.specs.Shares.{shareAt, sharesFrom, sharesOf}
 use Rattle.bundle.specs.Bundle.{filesOf}
 use Rattle.archive.specs.Archive.{holderOf, valuesFrom, shareBy, sharesBy}

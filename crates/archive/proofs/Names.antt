@@ -1,6 +1,6 @@
 -- The wrong holders as a number: bit h − 1 is set for the holder h of a file whose share differs, and clear for the holder of one whose share does
 -- not (`bit-of-file`) and for every other holder (`bit-of-none`). Assumes nothing.
-use mathlib.Core.Path.{_≡_, refl, sym, ap, _∙_}
+use mathlib.Core.Path.{_≡_, sym, _∙_}
 use mathlib.Core.Bool.{Bool, true, false}
 use mathlib.Core.Logic.{_≢_}
 use mathlib.Core.List.{List, [], _∷_}
@@ -16,7 +16,7 @@ use Rattle.codewords.specs.Codeword.{Share, Polynomial, when, differs, errorSet
 use Rattle.codewords.specs.WellFormed.{Different}
 use Rattle.codewords.proofs.ErrorSet.{bit-other, bit-clear}
 use Rattle.bundle.specs.Bundle.{bundleFault, filesOf}
-use Rattle.archive.specs.Archive.{paramsOf, holderOf, valuesFrom, shareBy, sharesBy}
+use Rattle.archive.specs.Archive.{paramsOf, holderOf, shareBy, sharesBy}
 use Rattle.archive.proofs.Values.{value-at}
 use Rattle.archive.proofs.Present.{values-all, shares-count, shares-holders}
 

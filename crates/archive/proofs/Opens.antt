@@ -6,17 +6,15 @@ use mathlib.Core.Path.{_≡_, refl, sym, ap, _∙_, subst}
 use mathlib.Core.Bool.{true}
 use mathlib.Core.List.{List, []}
 use mathlib.Core.Option.{Option, none, some}
-use Prim.Native.Nat.{ℕ, zero, suc, _+_, _-_, _*_, _≤_, _<_}
+use Prim.Native.Nat.{ℕ, _+_, _-_, _*_, _≤_, _<_}
 use native.Mathlib.Omega.{arith}
 use lib.Count.{ones}
-use lib.Dec.{ltb, lit<}
 use lib.ListN.{length, getD}
-use borrow.Author.Tests.{lt-leb, le-leb, lt-ltb, ltb-true, leb-true}
+use borrow.Author.Tests.{lt-ltb}
 use Rattle.words.specs.Refusal.{first, unless}
 use Rattle.words.specs.declared.Params.{Params}
 use Rattle.words.proofs.InRange.{InRange}
-use Rattle.words.proofs.Refusal.{pass, first-none, unless-yes}
-use Rattle.words.proofs.Tests.{and-both}
+use Rattle.words.proofs.Refusal.{first-none, unless-yes}
 use Rattle.algebra.proofs.Shares.{all-map}
 use Rattle.galois.specs.Element.{Element}
 use Rattle.ring.specs.Calls.{lengthFault}
@@ -24,7 +22,7 @@ use Rattle.codewords.specs.Codeword.{Share, Polynomial, errors, errorSet, codew
 use Rattle.codewords.specs.WellFormed.{IsPoly, Holders}
 use Rattle.codewords.proofs.ErrorSet.{ones-errors}
 use Rattle.codewords.proofs.Unique.{codeword-sound, codeword-none, none-codeword, codeword-complete}
-use Rattle.sharing.specs.Opening.{Opening, declines, gives, faultOf, fromCodeword, answerTo, unlessFault}
+use Rattle.sharing.specs.Opening.{Opening, declines, gives, faultOf, fromCodeword, answerTo}
 use Rattle.sharing.proofs.Opens.{Within, Source, answer-few, answer-from}
 use Rattle.bundle.specs.Bundle.{bundleFault, bundleHeading, filesOf}
 use Rattle.bundle.proofs.Accepted.{accepted, bundle-ranges}

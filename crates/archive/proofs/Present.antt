@@ -1,9 +1,9 @@
 -- The shares present in an accepted bundle: one for each file, under holders that rise from 1 to n; and words in width where none is wide.
 -- Assumes nothing.
-use mathlib.Core.Path.{_≡_, refl, sym, ap, _∙_}
+use mathlib.Core.Path.{_≡_}
 use mathlib.Core.Bool.{true}
-use mathlib.Core.List.{List, [], _∷_}
-use Prim.Native.Nat.{ℕ, zero, suc, _+_, _^_, _≤_, _<_}
+use mathlib.Core.List.{List}
+use Prim.Native.Nat.{ℕ, zero, suc, _+_, _≤_, _<_}
 use native.Mathlib.Omega.{arith}
 use lib.ListN.{length}
 use Rattle.words.specs.Word.{allInWidth}
@@ -13,7 +13,7 @@ use Rattle.algebra.specs.Shares.{All}
 use Rattle.algebra.proofs.Shares.{all-map}
 use Rattle.galois.specs.Element.{Element, sum}
 use Rattle.galois.proofs.Galois.{GR}
-use Rattle.galois.proofs.Lists.{toList, ofList, length-toList, width-to, sum-of}
+use Rattle.galois.proofs.Lists.{ofList, length-toList, width-to, sum-of}
 use Rattle.codewords.specs.Codeword.{Share}
 use Rattle.codewords.specs.WellFormed.{IsElement, InWidth, Rising, Holders}
 use Rattle.codewords.proofs.Find.{zero-element}
@@ -26,7 +26,7 @@ use Rattle.bundle.specs.Bundle.{bundleHeading, bundleFault, filesOf, fileAt}
 use Rattle.bundle.specs.Contents.{wordsOf}
 use Rattle.records.specs.declared.Heading.{Heading}
 use Rattle.bundle.proofs.Accepted.{accepted, bundle-ranges, file-at, same-at, holders-rise}
-use Rattle.archive.specs.Archive.{paramsOf, allowanceOf, holderOf, valuesFrom, shareBy, sharesBy, sumTo, runTotal, every, runInWidth}
+use Rattle.archive.specs.Archive.{paramsOf, allowanceOf, holderOf, valuesFrom, shareBy, sharesBy, sumTo, runTotal, runInWidth}
 use Rattle.archive.specs.Archive.{filesInWidth}
 use Rattle.archive.proofs.Values.{values-count, every-each, every-all}
 use Rattle.archive.proofs.Accepted.{files-high}

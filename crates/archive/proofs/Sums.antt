@@ -3,8 +3,8 @@
 -- values of a sum of polynomials are the sums of their values (`value-sums`), and so with the free term (`free-sums`). Assumes nothing.
 use mathlib.Core.Path.{_≡_, refl, sym, ap, ap₂, _∙_}
 use mathlib.Core.Bool.{true}
-use mathlib.Core.List.{List, [], _∷_, map}
-use Prim.Native.Nat.{ℕ, zero, suc, _+_, _-_, _*_, _%_, _^_, _≤_, _<_}
+use mathlib.Core.List.{[], _∷_}
+use Prim.Native.Nat.{ℕ, zero, suc, _+_, _-_, _%_, _^_, _≤_, _<_}
 use native.Mathlib.Nat.{not-suc-le-zero, le-of-suc-le-suc, suc-ne-zero, zero-mod, mod-add-mod, add-zero, add-assoc, zero-add, mod-eq-of-lt}
 use native.Mathlib.Omega.{arith}
 use lib.ListN.{length, getD, replicate, length-replicate}
@@ -24,7 +24,7 @@ use Rattle.galois.proofs.Lists.{toList, ofList, zero-of, of-zero}
 use Rattle.codewords.specs.Codeword.{Polynomial, value}
 use Rattle.codewords.specs.WellFormed.{IsElement, IsPoly}
 use Rattle.codewords.proofs.Find.{zero-element}
-use Rattle.codewords.proofs.Value.{polyOf, Rows, rows-of, value-of}
+use Rattle.codewords.proofs.Value.{polyOf, rows-of, value-of}
 use Rattle.codewords.proofs.Linear.{sums, sums-is-poly, value-sum}
 use Rattle.archive.specs.Archive.{valuesFrom, sumTo}
 use Rattle.archive.specs.Dealt.{freeTerms, wordsNo}

@@ -5,8 +5,8 @@
 -- (`empty-total`, `empty-run`). And one dealt job opens by its place (`place-opens-dealt`). Assumes nothing.
 use mathlib.Core.Path.{_≡_, refl, sym, ap, ap₂, _∙_}
 use mathlib.Core.Bool.{Bool, true, false, not}
-use mathlib.Core.List.{List, [], _∷_}
-use Prim.Native.Nat.{ℕ, zero, suc, _+_, _-_, _*_, _^_, _≤_, _<_}
+use mathlib.Core.List.{List, []}
+use Prim.Native.Nat.{ℕ, zero, suc, _+_, _-_, _^_, _≤_, _<_}
 use native.Mathlib.Nat.{le-trans}
 use native.Mathlib.Omega.{arith}
 use native.Mathlib.Decide.{decLe}
@@ -15,13 +15,13 @@ use lib.ListN.{length, getD}
 use lib.IntN.{pos, negℤ}
 use lib.Signed.{_≤ℤ_}
 use lib.Pow.{pow-pos}
-use borrow.Author.Tests.{ltb-true, lt-ltb, leb-true, eqb-true}
-use Rattle.words.specs.Refusal.{first, unless, kept}
+use borrow.Author.Tests.{ltb-true, leb-true, eqb-true}
+use Rattle.words.specs.Refusal.{unless}
 use Rattle.words.specs.Signed.{meaning, sumOfMeanings}
 use Rattle.words.specs.Word.{allInWidth}
 use Rattle.words.proofs.InRange.{InRange}
 use Rattle.words.proofs.Refusal.{first-left, first-right, unless-held, unless-yes, kept-none}
-use Rattle.words.proofs.Tests.{and-left, and-right, bool-cases}
+use Rattle.words.proofs.Tests.{and-left, and-right}
 use Rattle.galois.specs.Element.{Element, sum, zeroE, point, same}
 use Rattle.ring.specs.Calls.{lengthFault}
 use Rattle.galois.proofs.Elements.{same-eq, eq-same}
@@ -32,21 +32,20 @@ use Rattle.codewords.proofs.Value.{rows-of, value-element}
 use Rattle.codewords.proofs.Linear.{sums, sums-is-poly, dealt-sum}
 use Rattle.sharing.specs.Dealing.{dealing}
 use Rattle.sharing.specs.Opening.{gives}
-use Rattle.sharing.proofs.Opens.{Within, Source}
 use Rattle.sharing.proofs.DealtOpens.{Dealable, dealing-poly}
 use Rattle.bundle.specs.Bundle.{bundleFault, bundleHeading, filesOf}
 use Rattle.bundle.specs.Contents.{wordsOf}
 use Rattle.fetch.specs.Fetch.{fileOf}
 use Rattle.bundle.proofs.Accepted.{accepted, bundle-ranges}
-use Rattle.archive.specs.Archive.{paramsOf, allowanceOf, holderOf, valuesFrom, shareBy, sharesBy, sumTo, runTotal, sharesOver, every}
-use Rattle.archive.specs.Archive.{runInWidth, filesInWidth, isRun, openPlace, openRun, fileTotalFault, totalFault, totalWords}
+use Rattle.archive.specs.Archive.{paramsOf, allowanceOf, holderOf, valuesFrom, shareBy, sumTo, runTotal, sharesOver}
+use Rattle.archive.specs.Archive.{runInWidth, isRun, openPlace, openRun, fileTotalFault, totalFault, totalWords}
 use Rattle.archive.specs.Dealt.{holdsDealt, failing, changedFiles, freeTerms, wordsNo}
 use Rattle.archive.proofs.Values.{every-each, every-all}
 use Rattle.archive.proofs.Runs.{words-length, width-start}
 use Rattle.archive.proofs.Faults.{run-yes, total-file, file-total-3}
-use Rattle.archive.proofs.Present.{width-of, of-width}
+use Rattle.archive.proofs.Present.{of-width}
 use Rattle.archive.proofs.Sums.{sum-signed, free-element, sum-same, sum-none, sum-split, sumPolys, sums-poly, value-sums, sums-free, free-sums}
-use Rattle.archive.proofs.Opens.{Decides, PlaceClear, RunClear, Enough, place-decides, run-decides}
+use Rattle.archive.proofs.Opens.{PlaceClear, RunClear, Enough, place-decides, run-decides}
 
 -- ---- how many differ
 

@@ -2,8 +2,8 @@
 use Prim.Native.Nat.{ℕ, zero, suc, _+_}
 use mathlib.Core.Bool.{Bool, not}
 use mathlib.Core.List.{List, []}
-use lib.ListN.{getD, replicate}
-use Rattle.galois.specs.Element.{Element, zeroE, point, same}
+use lib.ListN.{getD}
+use Rattle.galois.specs.Element.{Element, point, same}
 use Rattle.polynomial.specs.Polynomial.{Polynomial, value}
 use Rattle.codewords.specs.Codeword.{when}
 use Rattle.bundle.specs.Bundle.{filesOf}

@@ -1,6 +1,6 @@
 -- Polynomials, shares and which of them differ, paper 01, "Ring, points, shares"; the codeword within an error bound, if there is one,
 -- without any algorithm. Assumes nothing.
-use Prim.Native.Nat.{ℕ, zero, suc, _+_, _-_, _^_}
+use Prim.Native.Nat.{ℕ, suc, _+_, _-_, _^_}
 use mathlib.Core.Bool.{Bool, true, false, not}
 use mathlib.Core.List.{List, [], _∷_}
 use mathlib.Core.Option.{Option, none, some}

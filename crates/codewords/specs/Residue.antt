@@ -6,7 +6,7 @@ use mathlib.Core.Bool.{Bool, true, false}
 use mathlib.Core.List.{List, [], _∷_}
 use lib.Dec.{eqb}
 use Rattle.algebra.specs.Shares.{All}
-use Rattle.galois.specs.Element.{Element, zip, difference, point}
+use Rattle.galois.specs.Element.{Element, difference, point}
 use Rattle.codewords.specs.Codeword.{Share, Polynomial, value}
 
 -- what remains of a share's words once p's value there is taken off

@@ -1,9 +1,9 @@
 -- The line of a place from the answer that the code has: the words of an opened job are in width, and the line says the answer. Assumes nothing.
 use mathlib.Core.Path.{_≡_, refl, sym, ap, ap₂, _∙_, subst}
-use mathlib.Core.Bool.{true, false}
+use mathlib.Core.Bool.{true}
 use mathlib.Core.List.{List, [], _∷_, map}
 use mathlib.Core.Option.{Option, none, some}
-use Prim.Native.Nat.{ℕ, zero, suc, _+_, _*_, _≤_, _<_}
+use Prim.Native.Nat.{ℕ, _+_, _*_, _≤_}
 use native.Mathlib.Nat.{suc-ne-zero}
 use native.Mathlib.Decide.{decLe}
 use native.Mathlib.Omega.{arith}
@@ -11,7 +11,7 @@ use lib.ListN.{length, getD, take}
 use Rattle.words.specs.Word.{allInWidth}
 use Rattle.words.specs.declared.Params.{Params}
 use Rattle.words.proofs.Tests.{bool-cases}
-use Rattle.galois.specs.Element.{Element, zeroE, held}
+use Rattle.galois.specs.Element.{zeroE, held}
 use Rattle.galois.proofs.Held.{held-take}
 use Rattle.codewords.specs.Codeword.{Share, Polynomial, codeword}
 use Rattle.codewords.specs.WellFormed.{IsElement, IsPoly}

@@ -7,7 +7,6 @@ use native.Mathlib.Omega.{arith}
 use borrow.Author.Tests.{le-leb, lt-leb}
 use lib.ListN.{length}
 use Rattle.words.specs.Refusal.{first, unless}
-use Rattle.records.specs.declared.Heading.{Heading}
 use Rattle.bundle.specs.Bundle.{bundleHeading, bundleFault}
 use Rattle.text.specs.Text.{headLine, refusedLine}
 use Rattle.listing.specs.Listing.{lineOf, linesFrom, mostInput, inputFault, unlessRefused, listingOf}

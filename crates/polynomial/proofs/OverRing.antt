@@ -5,7 +5,7 @@ use mathlib.Core.List.{List, [], _∷_, map}
 use Prim.Native.Nat.{ℕ, zero, suc, _^_, _≤_, _<_}
 use native.Mathlib.Nat.{le-refl}
 use native.Mathlib.Omega.{arith}
-use lib.ListN.{length, take, set, replicate, length-map}
+use lib.ListN.{length, take, replicate, length-map}
 use lib.Seq.{length-take-le}
 use Rattle.algebra.specs.Ring.{CommRing}
 use Rattle.algebra.specs.Poly.{eval, coef}
@@ -22,8 +22,7 @@ use Rattle.galois.proofs.Lists.{length-reduce, of-reduce, reduce-product, produ
 use Rattle.galois.proofs.Held.{held-take, held-length, zeros-held, to-six}
 use Rattle.galois.proofs.Narrow.{reduce-zeros, reduce-sum, reduce-held, sum-reduce}
 use Rattle.polynomial.specs.Polynomial.{Polynomial, value}
-use Rattle.polynomial.specs.Rows.{Rows, Shaped, coefs, change, lessTimes, lessMultiple, subtractRows, rootRows}
-use Rattle.polynomial.proofs.Shape.{shaped-by}
+use Rattle.polynomial.specs.Rows.{Rows, coefs, change, lessTimes, lessMultiple, subtractRows, rootRows}
 use Rattle.polynomial.proofs.Change.{change-map, change-lin, change-mulx}
 
 -- words beyond the n-th do not count

@@ -1,6 +1,6 @@
 -- The shares that dealing writes: how long they are, and whose stands where. Assumes nothing.
-use mathlib.Core.Path.{_≡_, refl, sym, _∙_, ap}
-use mathlib.Core.List.{List, [], _∷_, _++_}
+use mathlib.Core.Path.{_≡_, sym, _∙_, ap}
+use mathlib.Core.List.{[]}
 use Prim.Native.Nat.{ℕ, zero, suc, _+_, _*_, _≤_, _<_}
 use native.Mathlib.Nat.{not-suc-le-zero, le-of-suc-le-suc, zero-mul, add-zero}
 use native.Mathlib.Omega.{arith}
@@ -8,7 +8,6 @@ use lib.ListN.{length, take, drop, length-append}
 use lib.Seq.{take-at, drop-append-add}
 use Rattle.galois.specs.Element.{point}
 use Rattle.polynomial.specs.Polynomial.{Polynomial, value}
-use Rattle.codewords.specs.Codeword.{Share}
 use Rattle.codewords.proofs.Value.{Rows, value-element}
 use Rattle.sharing.specs.Dealing.{dealtFrom}
 

@@ -9,7 +9,7 @@ use Prim.Native.Nat.{ℕ, zero, suc, _+_, _*_, _≤_}
 use native.Mathlib.Nat.{suc-ne-zero}
 use native.Mathlib.Omega.{arith}
 use lib.Count.{ones}
-use lib.ListN.{length, take, drop, getD, length-drop}
+use lib.ListN.{length, drop, getD, length-drop}
 use lib.Seq.{length-take-le}
 use Rattle.words.specs.Word.{allInWidth}
 use Rattle.words.specs.declared.Params.{Params}
@@ -26,7 +26,7 @@ use Rattle.sharing.specs.Dealing.{elementsOf, dealing, dealt, dealFault}
 use Rattle.sharing.specs.Lists.{ofHolders, onEach, onPairs, changedSet}
 use Rattle.sharing.specs.Opening.{gives, lent, risingTo, opening}
 use Rattle.sharing.proofs.Elements.{elements-length}
-use Rattle.sharing.proofs.Faults.{DealClear, deal-clear}
+use Rattle.sharing.proofs.Faults.{deal-clear}
 use Rattle.sharing.proofs.Lent.{LentClear, clear-lent, clear-holders, width-take, width-drop}
 use Rattle.sharing.proofs.Opens.{finds}
 use Rattle.sharing.proofs.Values.{valuesAt, values-length, values-width, of-dealt, errors-changed, multiple-values, sum-values, changed-none}

@@ -1,7 +1,7 @@
 -- Lent shares: how many, under which holders; and what is known of them where no refusal ahead of 5 stops the call. Assumes nothing.
 use mathlib.Core.Path.{_≡_, refl, sym, _∙_, ap, ap₂}
-use mathlib.Core.Bool.{true, false, _&&_}
-use mathlib.Core.List.{List, [], _∷_, map}
+use mathlib.Core.Bool.{true, false}
+use mathlib.Core.List.{List, [], _∷_}
 use Prim.Native.Nat.{ℕ, zero, suc, _+_, _-_, _*_, _/_, _%_, _^_, _≤_, _<_}
 use native.Mathlib.Nat.{mul-div-cancel, mul-mod-left, mod-add-div}
 use native.Mathlib.Numerals.{add-one}
@@ -11,7 +11,7 @@ use lib.ListN.{length, take, drop, getD, length-drop}
 use lib.Seq.{drop-cons, length-take-le}
 use borrow.Author.Tests.{leb-true, ltb-true, eq-eqb, le-leb, lt-leb, lt-ltb, le-ltb}
 use Rattle.words.specs.Params.{paramsOk}
-use Rattle.words.specs.Refusal.{first, unless}
+use Rattle.words.specs.Refusal.{unless}
 use Rattle.words.specs.Word.{inWidth, allInWidth}
 use Rattle.words.specs.declared.Params.{Params}
 use Rattle.words.proofs.InRange.{InRange, range-ok}

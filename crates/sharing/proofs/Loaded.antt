@@ -1,13 +1,12 @@
 -- Lent shares in arrays: once holders and words are loaded, the decoder's shares are the lent ones. Assumes nothing.
-use mathlib.Core.Path.{_≡_, refl, sym, _∙_, ap, ap₂}
-use mathlib.Core.List.{List, [], _∷_, _++_, map}
-use Prim.Native.Nat.{ℕ, zero, suc, _+_, _*_, _≤_, _<_}
-use native.Mathlib.Nat.{le-of-eq, zero-add, zero-mul, suc-ne-zero}
+use mathlib.Core.Path.{_≡_, sym, _∙_, ap, ap₂}
+use mathlib.Core.List.{List, [], _∷_, _++_}
+use Prim.Native.Nat.{ℕ, zero, suc, _+_, _*_, _<_}
+use native.Mathlib.Nat.{le-of-eq, zero-add, zero-mul}
 use native.Mathlib.Omega.{arith}
 use lib.ListN.{length, take, drop, getD, drop-of-length-le, length-map}
 use lib.Seq.{paste, take-at, take-all, drop-cons, drop-drop, getD-take}
 use Rattle.polynomial.specs.Rows.{Rows, coefs}
-use Rattle.codewords.specs.Codeword.{Share}
 use Rattle.level.specs.Shares.{sharesFrom, sharesOf}
 use Rattle.sharing.specs.Dealing.{elementsOf}
 use Rattle.sharing.specs.Opening.{lent}

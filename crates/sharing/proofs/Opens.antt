@@ -2,14 +2,12 @@
 -- otherwise it gives the free term of a polynomial of degree at most t that differs from e shares or fewer, if there is one, and exactly
 -- the holders whose shares differ (`finds`), at most e of them (`names-few`); what it gives comes from such a polynomial (`found`); and it
 -- declines, with 6, exactly when there is none (`no-curve`, `none-within`). Assumes nothing.
-use mathlib.Core.Path.{_≡_, refl, sym, _∙_, ap, ap₂}
-use mathlib.Core.Bool.{Bool, true, false, cond}
-use mathlib.Core.List.{List, [], _∷_}
+use mathlib.Core.Path.{_≡_, refl, sym, _∙_, ap}
+use mathlib.Core.List.{List, []}
 use mathlib.Core.Option.{Option, none, some}
 use Prim.Native.Nat.{ℕ, zero, suc, _+_, _*_, _≤_, _<_}
 use native.Mathlib.Omega.{arith}
 use lib.Count.{ones}
-use lib.Dec.{leb}
 use lib.ListN.{length, getD}
 use borrow.Author.Tests.{le-leb, lt-leb}
 use Rattle.words.specs.declared.Params.{Params}

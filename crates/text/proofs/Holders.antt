@@ -9,7 +9,7 @@ use borrow.Author.Tests.{eq-eqb}
 use lib.Dec.{lit<}
 use lib.Pow.{shr-lt}
 use lib.Count.{trailingZeros, under}
-use Rattle.text.specs.Text.{holdersFrom, holders}
+use Rattle.text.specs.Text.{holdersFrom}
 
 -- z digits 0 and then a 1: the holder there comes first, and the rest stand for the holders above it
 abbrev First : ℕ → ℕ → ℕ → ℕ → Type 0

@@ -1,10 +1,8 @@
 -- `open_run`: a bundle with a fault declines with it. Assumes nothing.
 use borrow.Author.Needs.{needs}
-use mathlib.Core.Path.{_≡_, refl, sym, ap, ap₂, _∙_}
-use mathlib.Core.Bool.{true, false}
-use mathlib.Core.List.{List, [], _∷_, _++_}
-use Prim.Native.Nat.{ℕ, _+_, _-_, _*_, _≤_, _<_}
-use native.Mathlib.Omega.{arith}
+use mathlib.Core.Path.{_≡_, sym, ap, _∙_}
+use mathlib.Core.List.{List}
+use Prim.Native.Nat.{ℕ, _+_, _-_}
 use lib.ListN.{length}
 use denote.Ref.{now}
 use Rattle.sharing.specs.Opening.{Opening, declines, faultOf, wrongOf, wordsOf as outputOf}

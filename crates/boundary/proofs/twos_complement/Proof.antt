@@ -1,6 +1,5 @@
 -- `twos_complement`: a negative value is its magnitude below 2^64. Assumes nothing.
 use borrow.Author.Needs.{needs}
-use native.Mathlib.Omega.{arith}
 use Rattle.boundary.proofs.Signs.{some, negative-is, positive-is}
 use Rattle.boundary.proofs.twos_complement.Statement.{statement}
 use Rattle.boundary.proofs.twos_complement.Tie as tie

@@ -1,15 +1,13 @@
 -- `yikes_signed`: each return is a case of the signed reading. Assumes nothing.
 use borrow.Author.Needs.{needs}
 use mathlib.Core.Path.{_≡_, sym, ap, _∙_}
-use mathlib.Core.Bool.{true, false}
 use mathlib.Core.List.{List, [], _∷_}
-use Prim.Native.Nat.{ℕ, _≤_, _<_}
+use Prim.Native.Nat.{ℕ, _≤_}
 use native.Mathlib.Omega.{arith}
 use lib.ListN.{length}
-use borrow.Author.Tests.{ltb-true, not-true, not-false}
+use borrow.Author.Tests.{not-true, not-false}
 use denote.Ref.{now}
 use Rattle.words.specs.Signed.{signedOf}
-use Rattle.words.specs.Word.{inWidth}
 use Rattle.words.proofs.Refusal.{kept-none}
 use Rattle.archive.proofs.Faults.{declined}
 use Rattle.boundary.specs.Boundary.{twosComplement, signedFault}

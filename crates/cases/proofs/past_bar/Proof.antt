@@ -1,6 +1,5 @@
 -- `cases::past_bar` meets its contract: what follows the bar that was found, or nothing. Assumes nothing.
 use native.Mathlib.Omega.{arith}
-use lib.ListN.{length}
 use Rattle.cases.proofs.Split.{found-after, none-after}
 use borrow.Author.Needs.{needs}
 use Rattle.cases.proofs.past_bar.Statement.{statement}

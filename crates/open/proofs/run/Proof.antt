@@ -1,8 +1,6 @@
 -- A bundle that is listed is an accepted one. Assumes nothing.
 use borrow.Author.Needs.{needs}
 use mathlib.Core.Path.{sym, _∙_}
-use mathlib.Core.List.{List}
-use Prim.Native.Nat.{ℕ}
 use denote.Ref.{now}
 use Rattle.bundle.specs.Bundle.{bundleFault, filesOf}
 use Rattle.bundle.proofs.Files.{files-are}

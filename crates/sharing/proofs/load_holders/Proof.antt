@@ -1,8 +1,8 @@
 use borrow.Author.Needs.{needs}
 use native.Mathlib.Omega.{arith}
-use mathlib.Core.Path.{_≡_, refl, sym, ap, _∙_}
-use Prim.Native.Nat.{ℕ, _+_, _-_, _≤_, _<_}
-use lib.ListN.{length, take, getD, replicate, length-set, length-replicate}
+use mathlib.Core.Path.{_≡_, refl}
+use Prim.Native.Nat.{_-_, _≤_}
+use lib.ListN.{length, replicate, length-set}
 use lib.Seq.{paste, paste-zero}
 use Rattle.words.proofs.Fill.{fill-next}
 use Rattle.sharing.proofs.Loaded.{front}

@@ -1,13 +1,12 @@
 use borrow.Author.Needs.{needs}
 use native.Mathlib.Omega.{arith}
 use mathlib.Core.Path.{_≡_, refl, sym, ap, _∙_}
-use mathlib.Core.List.{List, [], map}
-use Prim.Native.Nat.{ℕ, _+_, _-_, _*_, _≤_, _<_}
-use native.Mathlib.Nat.{mul-le-mul-right, le-of-eq}
+use mathlib.Core.List.{[], map}
+use Prim.Native.Nat.{_-_, _≤_}
+use native.Mathlib.Nat.{mul-le-mul-right}
 use lib.ListN.{length, take, replicate, length-set}
 use lib.Seq.{paste, paste-zero}
 use Rattle.words.proofs.Fill.{fill-next}
-use Rattle.polynomial.specs.Rows.{Rows}
 use Rattle.sharing.proofs.Elements.{rowsOf, rows-length, row-at, rows-back}
 use Rattle.sharing.proofs.Loaded.{front}
 use Rattle.sharing.proofs.load_shares.Statement.{statement}

@@ -1,8 +1,8 @@
 use borrow.Author.Needs.{needs}
 use native.Mathlib.Omega.{arith}
-use mathlib.Core.Path.{_≡_, refl, sym, ap, _∙_}
-use Prim.Native.Nat.{ℕ, _+_, _-_, _≤_, _<_}
-use lib.ListN.{length, drop, getD, drop-of-length-le}
+use mathlib.Core.Path.{_≡_, refl, sym, _∙_}
+use Prim.Native.Nat.{_-_, _≤_}
+use lib.ListN.{length, drop, drop-of-length-le}
 use Rattle.sharing.specs.Opening.{risingTo}
 use Rattle.sharing.proofs.Lent.{rising-low, rising-high, rising-next}
 use Rattle.sharing.proofs.rising.Statement.{statement}
