@@ -198,10 +198,11 @@ pub fn is_record(bytes: &[u8], at: usize, kind: u64, len: usize) -> bool
     requires { ⌜ known kind len ≡ true ⌝ }
     ensures { λ r. ⌜ r ≡ framed (now (bytes .entry)) kind len at ⌝ }
 {
-    if bytes.len() < at {
+    let size = LENGTH_SIZE + len;
+    if bytes.len() < size {
         return false;
     }
-    if bytes.len() - at < LENGTH_SIZE + len {
+    if bytes.len() - size < at {
         return false;
     }
     if half_at(bytes, at) != len as u64 {

@@ -49,10 +49,10 @@ fn share_by(d: usize, secret: &[u64], coefficients: &[u64], t: usize, x: u64) ->
     ensures { λ r. ⌜ r ≡ held d (value 64 d (now (secret .entry) ∷ elementsOf d t (now (coefficients .entry))) (point d x)) ⌝ }
 {
     let mut r = [0u64; 6];
-    let mut i = t;
-    while 0 < i {
-        i -= 1;
-        let s = ring::sum(64, r, ring::load(d, coefficients, i * d));
+    let mut at = t * d;
+    while 0 < at {
+        at -= d;
+        let s = ring::sum(64, r, ring::load(d, coefficients, at));
         r = ring::product_by_point(64, d, s, x);
     }
     ring::sum(64, r, ring::load(d, secret, 0))

@@ -12,6 +12,9 @@ use borrow.Author.Needs.{needs}
 use Rattle.records.proofs.is_record.Statement.{statement}
 use Rattle.records.proofs.is_record.Tie as tie
 
+add-size : tie.Need-add-size
+add-size c = let s = c .before in omega (arith, known-max (s .args .kind) (s .args .len) (s .pre))
+
 returns : tie.Need-returns
 unfolding recordSize
 returns c =
@@ -20,9 +23,6 @@ returns c =
 
 sub-if2 : tie.Need-sub-if2
 sub-if2 c = search needs
-
-add-if2 : tie.Need-add-if2
-add-if2 c = let s = c .before .before in omega (arith, known-max (s .args .kind) (s .args .len) (s .pre))
 
 returns-2 : tie.Need-returns-2
 unfolding recordSize
@@ -58,9 +58,9 @@ pub is-record-spec : {M : Type 1} → statement M
 is-record-spec =
     tie.close
     (tie.spec
+    add-size
     returns
     sub-if2
-    add-if2
     returns-2
     half-at-requires
     returns-3
