@@ -83,10 +83,13 @@ turn k d r a b i c h₂ h₆ hr p hi ec e =
     ∙ sym (product-step k (lower d) a (take d b) i p hi)
 
 -- before the first turn
-pub no-turn : (k d : ℕ) (a b : Element) → 2 ≤ d → d ≤ 6 → length a ≡ d → take d (zeroE 6) ≡ product k (lower d) (drop d a) b
+pub product-none : (k d : ℕ) (b : Element) → 2 ≤ d → d ≤ 6 → take d (zeroE 6) ≡ product k (lower d) [] b
 unfolding product
-no-turn k d a b h₂ h₆ ha =
-    rw (drop-of-length-le a (le-of-eq ha), length-lower d h₂ h₆) (to-six (λ n. take n (zeroE 6) ≡ zeroE n) refl refl refl refl refl refl refl d h₆)
+product-none k d b h₂ h₆ =
+    rw (length-lower d h₂ h₆) (to-six (λ n. take n (zeroE 6) ≡ zeroE n) refl refl refl refl refl refl refl d h₆)
+
+pub no-turn : (k d : ℕ) (a b : Element) → 2 ≤ d → d ≤ 6 → length a ≡ d → take d (zeroE 6) ≡ product k (lower d) (drop d a) b
+no-turn k d a b h₂ h₆ ha = rw (drop-of-length-le a (le-of-eq ha)) (product-none k d b h₂ h₆)
 
 pub turn-length : (f g : ℕ → ℕ → ℕ) (r low b : Element) → length r ≡ 6 → length low ≡ 6 → length b ≡ 6 → length (zip f (zip g (0 ∷ r) low) b) ≡ 6
 turn-length f g r low b hr hl hb = ap length (zip-six f (zip g (0 ∷ r) low) b (ap length (zip-shifted g r low hr hl)) hb)

@@ -11,4 +11,5 @@ pub mod Zip
 pub mod Held
 pub mod Narrow
 pub mod Horner
+pub mod Rising
 pub mod Bits

@@ -56,6 +56,15 @@ zip-by f g e [] b = refl
 zip-by f g e (x ∷ a) [] = refl
 zip-by f g e (x ∷ a) (y ∷ b) = ap₂ _∷_ (e x y) (zip-by f g e a b)
 
+-- two operations on the first list's words that may change places
+pub zip-swap : (f g : ℕ → ℕ → ℕ) → ((x y z : ℕ) → f (g x y) z ≡ g (f x z) y) → (a b c : Element) → zip f (zip g a b) c ≡ zip g (zip f a c) b
+unfolding zip
+zip-swap f g e [] b c = refl
+zip-swap f g e (x ∷ a) [] [] = refl
+zip-swap f g e (x ∷ a) [] (z ∷ c) = refl
+zip-swap f g e (x ∷ a) (y ∷ b) [] = refl
+zip-swap f g e (x ∷ a) (y ∷ b) (z ∷ c) = ap₂ _∷_ (e x y z) (zip-swap f g e a b c)
+
 -- an operation that changes no word of the first list
 pub zip-first : (f : ℕ → ℕ → ℕ) (a b : Element) → length a ≡ length b → ((i : ℕ) → f (getD a i 0) (getD b i 0) ≡ getD a i 0) → zip f a b ≡ a
 unfolding zip

@@ -196,17 +196,21 @@ pub fn point(i: u64) -> [u64; 6]
     [i % 2, i1 % 2, i2 % 2, i3 % 2, i4 % 2, i5 % 2]
 }
 
-// The point of holder i times a in words of 64 bits: shifts and sums, one for each bit of i from the top.
-fn horner_by_bits(d: usize, low: [u64; 6], a: [u64; 6], i: u64) -> [u64; 6]
+// The point of holder i times a in words of 64 bits: a sum of those X^j a for which i has bit j. The first of them is taken by a product with
+// the bit, which costs no test.
+fn sum_by_bits(d: usize, low: [u64; 6], a: [u64; 6], i: u64) -> [u64; 6]
     requires { ⌜ ((2 ≤ d) × (d ≤ 6)) × (low ≡ held d (lower d)) ⌝ }
     ensures { λ r. ⌜ r ≡ held d (product 64 (lower d) (point d i) (take d a)) ⌝ }
 {
-    let mut r = [0u64; 6];
-    let mut j = d;
-    while 0 < j {
-        j -= 1;
-        let s = shift(d, low, r);
-        r = add_picked((i >> j) % 2, s, a);
+    let mut r = add_scaled(i % 2, [0; 6], a);
+    let mut p = a;
+    let mut j = 1;
+    while j < d {
+        let q = shift(d, low, p);
+        p = q;
+        let s = add_picked((i >> j) % 2, r, p);
+        r = s;
+        j += 1;
     }
     keep(d, r)
 }
@@ -217,11 +221,11 @@ fn product64_by_point(d: usize, a: [u64; 6], i: u64) -> [u64; 6]
     ensures { λ r. ⌜ r ≡ held d (product 64 (lower d) (point d i) (take d a)) ⌝ }
 {
     match d {
-        2 => horner_by_bits(2, lower_of(2), a, i),
-        3 => horner_by_bits(3, lower_of(3), a, i),
-        4 => horner_by_bits(4, lower_of(4), a, i),
-        5 => horner_by_bits(5, lower_of(5), a, i),
-        _ => horner_by_bits(6, lower_of(6), a, i),
+        2 => sum_by_bits(2, lower_of(2), a, i),
+        3 => sum_by_bits(3, lower_of(3), a, i),
+        4 => sum_by_bits(4, lower_of(4), a, i),
+        5 => sum_by_bits(5, lower_of(5), a, i),
+        _ => sum_by_bits(6, lower_of(6), a, i),
     }
 }
 
