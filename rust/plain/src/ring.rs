@@ -50,13 +50,14 @@ pub fn mul<const D: usize>(a: Element<D>, b: Element<D>) -> Element<D> {
     r
 }
 
-/// The point of holder x times a: the same over the bits of x, without products.
+/// The point of holder x times a: the sum of those X^j a for which x has bit j, the first by a product with the bit.
 pub fn mul_by_point<const D: usize>(a: Element<D>, x: u64) -> Element<D> {
-    let mut r = [0; D];
-    for j in (0..D).rev() {
-        r = shift(r);
+    let mut r = a.map(|w| w.wrapping_mul(x & 1));
+    let mut power = a;
+    for j in 1..D {
+        power = shift(power);
         if x >> j & 1 == 1 {
-            r = add(r, a);
+            r = add(r, power);
         }
     }
     r
