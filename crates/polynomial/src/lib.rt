@@ -25,6 +25,14 @@ fn horner(d: usize, p: &[[u64; 6]; 64], len: usize, x: u64) -> [u64; 6]
     ring::keep(d, r)
 }
 
+// The same for d 4, in a function of its own: the compiler takes the tests of the holder's bits out of a loop only where a function has few.
+fn horner_of_four(p: &[[u64; 6]; 64], len: usize, x: u64) -> [u64; 6]
+    requires { ⌜ (len ≤ 64) × Shaped (now p) ⌝ }
+    ensures { λ r. ⌜ r ≡ held 4 (value 64 4 (coefs 4 len (now (p .entry))) (point 4 x)) ⌝ }
+{
+    horner(4, p, len, x)
+}
+
 // The same. In each arm d is a constant, from which the compiler makes a loop for that d.
 fn eval64(d: usize, p: &[[u64; 6]; 64], len: usize, x: u64) -> [u64; 6]
     requires { ⌜ ((2 ≤ d) × (d ≤ 6)) × (len ≤ 64) × Shaped (now p) ⌝ }
@@ -33,7 +41,7 @@ fn eval64(d: usize, p: &[[u64; 6]; 64], len: usize, x: u64) -> [u64; 6]
     match d {
         2 => horner(2, p, len, x),
         3 => horner(3, p, len, x),
-        4 => horner(4, p, len, x),
+        4 => horner_of_four(p, len, x),
         5 => horner(5, p, len, x),
         _ => horner(6, p, len, x),
     }

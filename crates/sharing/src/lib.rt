@@ -58,6 +58,14 @@ fn share_by(d: usize, secret: &[u64], coefficients: &[u64], t: usize, x: u64) ->
     ring::sum(64, r, ring::load(d, secret, 0))
 }
 
+// The same for d 4, in a function of its own: the compiler takes the tests of the holder's bits out of a loop only where a function has few.
+fn share_of_four(secret: &[u64], coefficients: &[u64], t: usize, x: u64) -> [u64; 6]
+    requires { ⌜ (t ≤ 63) × (length (now secret) ≡ 4) × (length (now coefficients) ≡ t * 4) ⌝ }
+    ensures { λ r. ⌜ r ≡ held 4 (value 64 4 (now (secret .entry) ∷ elementsOf 4 t (now (coefficients .entry))) (point 4 x)) ⌝ }
+{
+    share_by(4, secret, coefficients, t, x)
+}
+
 // The same, with code for each d.
 fn share_at(d: usize, secret: &[u64], coefficients: &[u64], t: usize, x: u64) -> [u64; 6]
     requires { ⌜ ((2 ≤ d) × (d ≤ 6)) × (t ≤ 63) × (length (now secret) ≡ d) × (length (now coefficients) ≡ t * d) ⌝ }
@@ -66,7 +74,7 @@ fn share_at(d: usize, secret: &[u64], coefficients: &[u64], t: usize, x: u64) ->
     match d {
         2 => share_by(2, secret, coefficients, t, x),
         3 => share_by(3, secret, coefficients, t, x),
-        4 => share_by(4, secret, coefficients, t, x),
+        4 => share_of_four(secret, coefficients, t, x),
         5 => share_by(5, secret, coefficients, t, x),
         _ => share_by(6, secret, coefficients, t, x),
     }
