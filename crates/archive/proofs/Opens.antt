@@ -23,7 +23,7 @@ use Rattle.codewords.specs.WellFormed.{IsPoly, Holders}
 use Rattle.codewords.proofs.ErrorSet.{ones-errors}
 use Rattle.codewords.proofs.Unique.{codeword-sound, codeword-none, none-codeword, codeword-complete}
 use Rattle.sharing.specs.Opening.{Opening, declines, gives, faultOf, fromCodeword, answerTo}
-use Rattle.sharing.proofs.Opens.{Within, Source, answer-few, answer-from}
+use Rattle.sharing.proofs.Opens.{Within, Source, gives-inj, gives-not, answer-few, answer-from}
 use Rattle.bundle.specs.Bundle.{bundleFault, bundleHeading, filesOf}
 use Rattle.bundle.proofs.Accepted.{accepted, bundle-ranges}
 use Rattle.archive.specs.Archive.{paramsOf, allowanceOf, sharesBy, sharesAt, sharesOver, filesInWidth, isPlace, isRun, placeOpening, runOpening}
@@ -40,24 +40,6 @@ pub record Decides (p : Params) (e : ℕ) (ss : List Share) (o : Opening) : Type
   pub none-within : (c : ℕ) → o ≡ declines c → (c ≡ 6) × ((q : Polynomial) → IsPoly (p .k) (p .d) (p .t) q → e < errors (p .k) (p .d) q ss)
 
 -- ---- the answer to shares
-
-gives-inj : {w v : ℕ} {ws vs : List ℕ} → gives w ws ≡ gives v vs → (w ≡ v) × (ws ≡ vs)
-gives-inj e = (ap wrong e, ap words e)
-  where
-    wrong : Opening → ℕ
-    wrong (declines c) = 0
-    wrong (gives w ws) = w
-
-    words : Opening → List ℕ
-    words (declines c) = []
-    words (gives w ws) = ws
-
-gives-not : {X : Type 0} {w c : ℕ} {ws : List ℕ} → gives w ws ≡ declines c → X
-gives-not e = absurd (let z : _≡_ {A = ℕ} 0 1 = ap side e in omega arith)
-  where
-    side : Opening → ℕ
-    side (declines c) = 1
-    side (gives w ws) = 0
 
 module _ (p : Params) (range : InRange p) (e : ℕ) (ss : List Share) (holders : Holders (p .d) ss) (enough : p .t + 1 + 2 * e ≤ length ss) where
   from : (o : Option Polynomial) → codeword (p .k) (p .d) (p .t) e ss ≡ o → answerTo p e ss ≡ fromCodeword (p .k) (p .d) ss o

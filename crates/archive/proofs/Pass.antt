@@ -1,23 +1,23 @@
--- One pass over a run of a file. Words are in width exactly where all of them together, bit by bit, are (`or-width`, `six-width`); a sum in words of
+-- One pass over a run of a file. Words are in width exactly where all of them together, bit by bit, are (`six-width`); a sum in words of
 -- 64 bits, cut to k bits at the end, is the sum in words of k bits (`sum-cut`); what the pass adds with each job; where it finds the jobs of a
 -- bundle (`run-told`); and that opening a place is opening the run of that place alone (`place-run`). Assumes nothing.
 use mathlib.Core.Path.{_≡_, refl, sym, ap, ap₂, _∙_}
 use mathlib.Core.Bool.{Bool, true, false, _&&_}
-use mathlib.Core.List.{List, [], _∷_, _++_}
-use Prim.Native.Nat.{ℕ, zero, suc, _+_, _-_, _*_, _^_, _≤_, _<_}
-use native.Mathlib.Nat.{mul-le-mul-right, mod-add-mod, add-zero}
+use mathlib.Core.List.{List, _++_}
+use Prim.Native.Nat.{ℕ, zero, suc, _+_, _-_, _*_, _≤_, _<_}
+use native.Mathlib.Nat.{mul-le-mul-right, add-zero}
 use native.Mathlib.Numerals.{add-one}
 use native.Mathlib.Omega.{arith}
-use lib.Bits.{bitOr, or-lt, or-add-and, and-le-r, and-le-l}
+use lib.Bits.{bitOr}
 use lib.ListN.{length, getD, drop, replicate}
 use lib.Pow.{pow-pos}
-use Rattle.words.specs.Word.{addW, inWidth, allInWidth}
-use Rattle.words.proofs.Tests.{bool-cases, and-left, and-right, and-both, same-test}
-use Rattle.words.proofs.Width.{in-width-lt, lt-in-width}
-use Rattle.galois.specs.Element.{Element, zip, sum, zeroE, held, reduce}
+use Rattle.words.specs.Word.{inWidth, allInWidth}
+use Rattle.words.proofs.Tests.{bool-cases}
+use Rattle.words.proofs.Width.{lt-in-width, or-width}
+use Rattle.galois.specs.Element.{Element, sum, zeroE, held, reduce}
 use Rattle.galois.proofs.Zip.{six-words}
 use Rattle.galois.proofs.Held.{sum-held, zeros-held, held-length}
-use Rattle.galois.proofs.Narrow.{reduce-sum, reduce-zeros, reduce-held}
+use Rattle.galois.proofs.Narrow.{reduce-sum, reduce-left, reduce-zeros, reduce-held}
 use Rattle.sharing.specs.Opening.{answerTo}
 use Rattle.records.specs.Layout.{recordSize, wordSize, wordsAt, jobLenOf, jobSize, headSize, orderSize, fileSize}
 use Rattle.records.specs.declared.Heading.{Heading}
@@ -35,15 +35,6 @@ use Rattle.archive.proofs.Present.{width-of}
 use Rattle.archive.proofs.Sums.{sum-same, sum-one}
 
 -- ---- words together
-
-or-width : (k x y : ℕ) → inWidth k (bitOr x y) ≡ (inWidth k x && inWidth k y)
-or-width k x y =
-    same-test (inWidth k (bitOr x y)) (inWidth k x && inWidth k y)
-    (λ e. (let h = in-width-lt k (bitOr x y) e in
-    and-both (inWidth k x) (inWidth k y) (lt-in-width k x (omega (arith, h, or-add-and x y, and-le-r x y)))
-    (lt-in-width k y (omega (arith, h, or-add-and x y, and-le-l x y)))))
-    (λ e. lt-in-width k (bitOr x y)
-    (or-lt k x y (in-width-lt k x (and-left (inWidth k x) (inWidth k y) e)) (in-width-lt k y (and-right (inWidth k x) (inWidth k y) e))))
 
 -- word upon word, where a test says of each whether it is in width
 pub none-seen : (k : ℕ) (t : ℕ → Bool) → inWidth k 0 ≡ every t 0
@@ -71,18 +62,12 @@ six-width k w h =
 
 -- ---- sums in more bits
 
-cut-left : (k : ℕ) (a b : Element) → sum k (reduce k a) b ≡ sum k a b
-unfolding zip reduce addW
-cut-left k [] b = refl
-cut-left k (x ∷ a) [] = refl
-cut-left k (x ∷ a) (y ∷ b) = ap₂ _∷_ (mod-add-mod x (2 ^ k) y) (cut-left k a b)
-
 sum-cut : {j k : ℕ} → j ≤ k → (d : ℕ) (s : ℕ → Element) (n : ℕ) → reduce j (sumTo k d s n) ≡ sumTo j d s n
 unfolding sumTo
 sum-cut {j} {k} h d s zero = reduce-zeros j d
 sum-cut {j} {k} h d s (suc n) =
     reduce-sum h (sumTo k d s n) (s n)
-    ∙ sym (cut-left j (sumTo k d s n) (s n))
+    ∙ sym (reduce-left j (sumTo k d s n) (s n))
     ∙ ap (λ (x : Element). sum j x (s n)) (sum-cut h d s n)
 
 -- ---- the pass, over the jobs' words s

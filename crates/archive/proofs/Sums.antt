@@ -21,10 +21,11 @@ use Rattle.algebra.proofs.Poly.{eval-zero}
 use Rattle.galois.specs.Element.{Element, zip, sum, zeroE}
 use Rattle.galois.proofs.Galois.{GR}
 use Rattle.galois.proofs.Lists.{toList, ofList, zero-of, of-zero}
+use Rattle.polynomial.proofs.OverRing.{polyOf, value-of}
 use Rattle.codewords.specs.Codeword.{Polynomial, value}
 use Rattle.codewords.specs.WellFormed.{IsElement, IsPoly}
 use Rattle.codewords.proofs.Find.{zero-element}
-use Rattle.codewords.proofs.Value.{polyOf, rows-of, value-of}
+use Rattle.codewords.proofs.Value.{rows-of}
 use Rattle.codewords.proofs.Linear.{sums, sums-is-poly, value-sum}
 use Rattle.archive.specs.Archive.{valuesFrom, sumTo}
 use Rattle.archive.specs.Dealt.{freeTerms, wordsNo}
@@ -161,7 +162,7 @@ module _ (d : ℕ) (dl : 2 ≤ d) (dh : d ≤ 6) (k : ℕ) where
 
   zero-value : (t : ℕ) (x : Element) → length x ≡ d → value k d (replicate (suc t) (zeroE d)) x ≡ zeroE d
   zero-value t x l =
-      value-of d dl dh k (replicate (suc t) (zeroE d)) (rows-of k d t (replicate (suc t) (zeroE d)) (zero-poly k d t)) x l
+      value-of k d dl dh (replicate (suc t) (zeroE d)) x (rows-of k d t (replicate (suc t) (zeroE d)) (zero-poly k d t)) l
       ∙ ap toList (eval-zero (GR d k) (polyOf k d (replicate (suc t) (zeroE d))) (ofList k d x) (λ j h. zero-coefs (suc t) j))
       ∙ sym (zero-of k d)
 
@@ -181,11 +182,6 @@ unfolding sums
 first-sums k [] q h e = absurd (not-suc-le-zero h)
 first-sums k (a ∷ p) [] h e = absurd (suc-ne-zero (length p) e)
 first-sums k (a ∷ p) (b ∷ q) h e = refl
-
--- the free term is an element
-pub free-element : (k d t : ℕ) (p : Polynomial) → IsPoly k d t p → IsElement k d (getD p 0 [])
-free-element k d t [] h = absurd (suc-ne-zero t (sym (h .0)))
-free-element k d t (a ∷ p) h = h .1 .0
 
 pub sums-free : (k d t : ℕ) (p q : Polynomial) → IsPoly k d t p → IsPoly k d t q → getD (sums k p q) 0 [] ≡ sum k (getD p 0 []) (getD q 0 [])
 sums-free k d t p q x y = first-sums k p q (omega (arith, x .0)) (x .0 ∙ sym (y .0))

@@ -28,7 +28,7 @@ use Rattle.galois.proofs.Elements.{same-eq, eq-same}
 use Rattle.galois.proofs.Points.{length-point}
 use Rattle.codewords.specs.Codeword.{Share, Polynomial, value, when, differs, errors, errorSet}
 use Rattle.codewords.specs.WellFormed.{IsPoly}
-use Rattle.codewords.proofs.Value.{rows-of, value-element}
+use Rattle.codewords.proofs.Value.{rows-of, free-element, value-element}
 use Rattle.codewords.proofs.Linear.{sums, sums-is-poly, dealt-sum}
 use Rattle.sharing.specs.Dealing.{dealing}
 use Rattle.sharing.specs.Opening.{gives}
@@ -44,7 +44,7 @@ use Rattle.archive.proofs.Values.{every-each, every-all}
 use Rattle.archive.proofs.Runs.{words-length, width-start}
 use Rattle.archive.proofs.Faults.{run-yes, total-file, file-total-3}
 use Rattle.archive.proofs.Present.{of-width}
-use Rattle.archive.proofs.Sums.{sum-signed, free-element, sum-same, sum-none, sum-split, sumPolys, sums-poly, value-sums, sums-free, free-sums}
+use Rattle.archive.proofs.Sums.{sum-signed, sum-same, sum-none, sum-split, sumPolys, sums-poly, value-sums, sums-free, free-sums}
 use Rattle.archive.proofs.Opens.{PlaceClear, RunClear, Enough, place-decides, run-decides}
 
 -- ---- how many differ

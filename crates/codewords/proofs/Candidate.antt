@@ -25,9 +25,10 @@ use Rattle.galois.proofs.Galois.{GR}
 use Rattle.galois.proofs.Lists.{toList, ofList, length-toList, width-to, zero-of}
 use Rattle.galois.proofs.Field.{is-field}
 use Rattle.galois.proofs.Instance.{ringOf}
+use Rattle.polynomial.proofs.OverRing.{polyOf}
 use Rattle.codewords.specs.Codeword.{Share, Polynomial, value, errors, codeword}
 use Rattle.codewords.specs.WellFormed.{IsElement, IsPoly, Different, Holders}
-use Rattle.codewords.proofs.Value.{shareOf, polyOf, Rows, rows-of, value-at, count-errors}
+use Rattle.codewords.proofs.Value.{shareOf, Rows, rows-of, value-at, count-errors}
 use Rattle.codewords.proofs.Unique.{poly-to, apart-of, none-codeword, codeword-only}
 
 -- the only candidate is the codeword, if it is within the bound

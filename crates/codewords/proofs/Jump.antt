@@ -23,10 +23,11 @@ use Rattle.galois.specs.Element.{Element, zeroE, reduce, point}
 use Rattle.galois.proofs.Galois.{GR, low, modulus}
 use Rattle.galois.proofs.Lists.{toList, ofList}
 use Rattle.galois.proofs.Points.{length-point, low-point}
+use Rattle.polynomial.proofs.OverRing.{polyOf}
 use Rattle.codewords.specs.Codeword.{Share, Polynomial, value, when, differs, errors, errorSet, codeword}
 use Rattle.codewords.specs.Residue.{residue, bitOf, atBit, AgreeBelow, without}
 use Rattle.codewords.specs.WellFormed.{IsElement, IsPoly, InWidth, Holders}
-use Rattle.codewords.proofs.Value.{shareOf, polyOf, Rows, rows-of, value-at, right-value, value-right, right-meets, zero-is-poly, zero-value}
+use Rattle.codewords.proofs.Value.{shareOf, Rows, rows-of, value-at, right-value, value-right, right-meets, zero-is-poly, zero-value}
 use Rattle.codewords.proofs.Residue.{residue-of, residue-none, agree-reduce, bit-zeros}
 use Rattle.codewords.proofs.Unique.{poly-back, unique, codeword-sound, codeword-none, none-codeword, codeword-complete}
 use Rattle.codewords.proofs.ErrorSet.{bit-differs, ones-errors}

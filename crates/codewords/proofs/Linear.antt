@@ -18,9 +18,10 @@ use Rattle.galois.proofs.Table.{length-lower}
 use Rattle.galois.proofs.Lists.{toList, ofList, length-toList, of-to, width-to, sum-of, sum-to, product-of}
 use Rattle.galois.proofs.Elements.{same-refl}
 use Rattle.galois.proofs.Points.{length-point}
+use Rattle.polynomial.proofs.OverRing.{polyOf, value-of}
 use Rattle.codewords.specs.Codeword.{Share, Polynomial, value, when, differs, errors, codeword}
 use Rattle.codewords.specs.WellFormed.{IsElement, IsPoly, Holders}
-use Rattle.codewords.proofs.Value.{polyOf, Rows, rows-of, value-of}
+use Rattle.codewords.proofs.Value.{Rows, rows-of}
 use Rattle.codewords.proofs.Unique.{codeword-complete}
 
 -- the sum of two polynomials of one length, and a polynomial times an element, coefficient by coefficient
@@ -78,9 +79,9 @@ module _ (d : ℕ) (dl : 2 ≤ d) (dh : d ≤ 6) (k : ℕ) where
   value-sum p q r s l x m =
       let R = GR d k in
       let z = ofList k d x in
-      value-of d dl dh k (sums k p q) (all-map (λ c e. e .0) (sums k p q) (sums-elements k d p q r s)) x m
+      value-of k d dl dh (sums k p q) x (all-map (λ c e. e .0) (sums k p q) (sums-elements k d p q r s)) m
       ∙ ap toList (ap (λ f. eval R f z) (sums-of k d p q r s l) ∙ eval-padd R (polyOf k d p) (polyOf k d q) z)
-      ∙ sym (ap₂ (sum k) (value-of d dl dh k p r x m) (value-of d dl dh k q s x m) ∙ sum-to k (eval R (polyOf k d p) z) (eval R (polyOf k d q) z))
+      ∙ sym (ap₂ (sum k) (value-of k d dl dh p x r m) (value-of k d dl dh q x s m) ∙ sum-to k (eval R (polyOf k d p) z) (eval R (polyOf k d q) z))
 
   -- multiples
   multiple-element : (c a : Element) → length c ≡ d → length a ≡ d → IsElement k d (product k (lower d) c a)
@@ -109,9 +110,9 @@ module _ (d : ℕ) (dl : 2 ≤ d) (dh : d ≤ 6) (k : ℕ) where
       let R = GR d k in
       let z = ofList k d x in
       let v = eval R (polyOf k d p) z in
-      value-of d dl dh k (multiple k d c p) (all-map (λ b e. e .0) (multiple k d c p) (multiple-elements c l p r)) x m
+      value-of k d dl dh (multiple k d c p) x (all-map (λ b e. e .0) (multiple k d c p) (multiple-elements c l p r)) m
       ∙ ap toList (ap (λ f. eval R f z) (multiple-of c l p r) ∙ eval-scale R (ofList k d c) (polyOf k d p) z)
-      ∙ sym (ap (product k (lower d) c) (value-of d dl dh k p r x m)
+      ∙ sym (ap (product k (lower d) c) (value-of k d dl dh p x r m)
       ∙ product-of k d (lower d) len d c (toList v) l (length-toList v) ∙ ap (λ u. toList (R .mul (ofList k d c) u)) (of-to k v))
 
   -- so with dealt shares

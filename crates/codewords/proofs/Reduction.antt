@@ -19,10 +19,11 @@ use Rattle.galois.specs.Element.{Element, reduce}
 use Rattle.galois.proofs.Zmod.{Word, word, word-ext, times-val}
 use Rattle.galois.proofs.Galois.{GR, Zk, modulus, rho, low, lowW, quotW, times-quot}
 use Rattle.galois.proofs.Lists.{toList, ofList, length-reduce, width-reduce, low-of, low-to, of-reduce}
+use Rattle.polynomial.proofs.OverRing.{polyOf, value-of}
 use Rattle.codewords.specs.Codeword.{Polynomial, value}
 use Rattle.codewords.specs.Residue.{bitOf}
 use Rattle.codewords.specs.WellFormed.{IsElement, IsPoly}
-use Rattle.codewords.proofs.Value.{polyOf, Rows, value-of}
+use Rattle.codewords.proofs.Value.{Rows}
 
 -- elements and polynomials of fewer bits
 pub reduce-element : (k d : ℕ) (a : Element) → length a ≡ d → IsElement k d (reduce k a)
@@ -48,11 +49,11 @@ module _ (d : ℕ) (dl : 2 ≤ d) (dh : d ≤ 6) {j k : ℕ} (h : j ≤ k) where
   -- the value of the reduction is the reduction of the value
   pub value-reduce : (p : Polynomial) → Rows d p → (x : Element) → length x ≡ d → value j d (map (reduce j) p) x ≡ reduce j (value k d p x)
   value-reduce p r x l =
-      value-of d dl dh j (map (reduce j) p) (rows p r) x l
+      value-of j d dl dh (map (reduce j) p) x (rows p r) l
       ∙ ap₂ (λ q z. toList (eval (GR d j) q z)) (reduced-of j d p ∙ sym (low-poly h d p)) (sym (low-of h d x))
       ∙ ap toList (sym (eval-map (low (modulus d) h) (polyOf k d p) (ofList k d x)))
       ∙ low-to h (eval (GR d k) (polyOf k d p) (ofList k d x))
-      ∙ ap (reduce j) (sym (value-of d dl dh k p r x l))
+      ∙ ap (reduce j) (sym (value-of k d dl dh p x r l))
     where
       rows : (p : Polynomial) → Rows d p → Rows d (map (reduce j) p)
       rows [] r = tt

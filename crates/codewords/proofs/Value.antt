@@ -1,11 +1,12 @@
--- Values, shares and errors of the definitions, as those of the ring: `value` is the ring's value, a share in width differs exactly when the
--- ring says that the polynomial misses it, and a share of any words that does not differ is not missed; the zero polynomial. Assumes nothing.
+-- Shares, values at their points and errors of the definitions, as those of the ring: a share in width differs exactly when the ring says
+-- that the polynomial misses it, and a share of any words that does not differ is not missed; the zero polynomial. Assumes nothing.
 use mathlib.Core.Path.{_≡_, refl, sym, _∙_, ap, ap₂}
 use mathlib.Core.Bool.{Bool, true, false, not}
 use mathlib.Core.List.{List, [], _∷_, map}
 use Prim.Native.Nat.{ℕ, zero, suc, _+_, _≤_}
+use native.Mathlib.Nat.{suc-ne-zero}
 use native.Mathlib.Omega.{arith}
-use lib.ListN.{length, replicate, length-replicate}
+use lib.ListN.{length, getD, replicate, length-replicate}
 use borrow.Author.Tests.{not-false}
 use Rattle.words.proofs.Tests.{same-test}
 use Rattle.algebra.specs.Poly.{eval}
@@ -13,23 +14,20 @@ use Rattle.algebra.specs.Shares as A
 use Rattle.algebra.specs.Shares.{bit, count, All, misses}
 use Rattle.algebra.proofs.Ring.{add-zero, mul-zero, eqb-true}
 use Rattle.algebra.proofs.Shares.{all-map}
-use Rattle.galois.specs.Element.{Element, sum, product, lower, zeroE, point, same}
+use Rattle.galois.specs.Element.{zeroE, point, same}
 use Rattle.galois.proofs.Galois.{GR}
-use Rattle.galois.proofs.Table.{length-lower}
-use Rattle.galois.proofs.Lists.{toList, ofList, length-toList, of-to, to-of, width-to, zero-of, of-zero, sum-of, product-of}
+use Rattle.galois.proofs.Lists.{toList, ofList, length-toList, of-to, to-of, width-to, zero-of, of-zero}
 use Rattle.galois.proofs.Elements.{same-eq, eq-same}
 use Rattle.galois.proofs.Points.{length-point, pointR}
 use Rattle.galois.proofs.Instance.{ringOf}
+use Rattle.polynomial.proofs.OverRing.{polyOf, value-of}
 use Rattle.codewords.specs.Codeword.{Share, Polynomial, value, differs, errors, when}
 use Rattle.codewords.specs.WellFormed.{IsElement, IsPoly, InWidth}
 use Rattle.codewords.proofs.Find.{fixed, zero-element}
 
--- a share and a polynomial in the ring: words are cut to k bits
+-- a share in the ring: words are cut to k bits
 abbrev pub shareOf : (k d : ℕ) → Share → A.Share (GR d k)
 shareOf k d s = record { at = pointR d k (s .holder); val = ofList k d (s .words) }
-
-abbrev pub polyOf : (k d : ℕ) → Polynomial → List (GR d k .E)
-polyOf k d p = map (ofList k d) p
 
 -- each coefficient has d words
 abbrev pub Rows : ℕ → Polynomial → Type 0
@@ -37,6 +35,11 @@ Rows d p = All (λ c. length c ≡ d) p
 
 pub rows-of : (k d t : ℕ) (p : Polynomial) → IsPoly k d t p → Rows d p
 rows-of k d t p h = all-map (λ c e. e .0) p (h .1)
+
+-- the free term is an element
+pub free-element : (k d t : ℕ) (p : Polynomial) → IsPoly k d t p → IsElement k d (getD p 0 [])
+free-element k d t [] h = absurd (suc-ne-zero t (sym (h .0)))
+free-element k d t (c ∷ p) h = h .1 .0
 
 -- a share does not differ exactly when it holds the value
 module _ (k d : ℕ) (p : Polynomial) (s : Share) where
@@ -52,23 +55,9 @@ module _ (k d : ℕ) (p : Polynomial) (s : Share) where
   value-right e = ap not (eq-same (s .words) (value k d p (point d (s .holder))) e)
 
 module _ (d : ℕ) (dl : 2 ≤ d) (dh : d ≤ 6) (k : ℕ) where
-  pub value-of : (p : Polynomial) → Rows d p → (x : Element) → length x ≡ d →
-      value k d p x ≡ toList (eval (GR d k) (polyOf k d p) (ofList k d x))
-  unfolding value
-  value-of [] h x l = zero-of k d
-  value-of (c ∷ p) h x l =
-      let v = eval (GR d k) (polyOf k d p) (ofList k d x) in
-      let w = GR d k .mul (ofList k d x) v in
-      ap (λ y. sum k c (product k (lower d) x y)) (value-of p (h .1) x l)
-      ∙ ap (sum k c)
-      (product-of k d (lower d) (length-lower d dl dh) d x (toList v) l (length-toList v)
-      ∙ ap (λ u. toList (GR d k .mul (ofList k d x) u)) (of-to k v))
-      ∙ sum-of k d c (toList w) (h .0) (length-toList w)
-      ∙ ap (λ u. toList (GR d k .add (ofList k d c) u)) (of-to k w)
-
   pub value-at : (p : Polynomial) → Rows d p → (s : Share) →
       value k d p (point d (s .holder)) ≡ toList (eval (GR d k) (polyOf k d p) (shareOf k d s .at))
-  value-at p h s = value-of p h (point d (s .holder)) (length-point d (s .holder))
+  value-at p h s = value-of k d dl dh p (point d (s .holder)) h (length-point d (s .holder))
 
   -- a value is an element
   pub value-element : (p : Polynomial) → Rows d p → (s : Share) → IsElement k d (value k d p (point d (s .holder)))

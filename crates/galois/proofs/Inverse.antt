@@ -24,8 +24,8 @@ use Rattle.galois.proofs.Galois.{Zk, GR, modulus, low, newton-lift, ste
 use Rattle.galois.proofs.Table.{length-lower}
 use Rattle.galois.proofs.Lists.{toList, ofList, const-suc, length-toList, length-zip, length-product, length-reduce}
 use Rattle.galois.proofs.Lists.{of-to, to-of, low-of, of-reduce, reduce-to, width-to, zero-of, of-zero, one-of, of-one}
-use Rattle.galois.proofs.Lists.{product-of, of-product, of-difference, reduce-product, reduce-reduce, product-alike}
-use Rattle.galois.proofs.Elements.{same-eq, eq-same, elements-all, elements-only, first-passes, first-none, first-is}
+use Rattle.galois.proofs.Lists.{product-of, of-product, of-difference, reduce-product, reduce-reduce, product-same, product-alike}
+use Rattle.galois.proofs.Elements.{same-eq, eq-same, elements-all, elements-only, listed-only, first-passes, first-none, first-is, first-same}
 use Rattle.galois.proofs.Held.{held-take, held-length}
 use Rattle.galois.proofs.Narrow.{reduce-take, reduce-zeros, narrow-product}
 use Rattle.galois.proofs.Field.{length-fermat, fermat-inverse, one-not-zero, unit-of-odd}
@@ -36,6 +36,15 @@ unfolding inverse
 inverse-element k d a =
     first-is (λ b. same (product k (lower d) a b) (oneE d)) (λ e. (u : Vec (Word (2 ^ k)) d) × (toList u ≡ e)) (elements k d) (zeroE d)
     (elements-only k d) (pad (Zk k) d nil, sym (zero-of k d))
+
+-- the inverse depends on the words modulo 2^k alone
+pub inverse-same : (k d : ℕ) → 2 ≤ d → d ≤ 6 → (a b : Element) → length a ≡ d → length b ≡ d → ofList k d a ≡ ofList k d b → inverse k d a ≡ inverse k d b
+unfolding inverse
+inverse-same k d dl dh a b la lb e =
+    first-same (λ y. same (product k (lower d) a y) (oneE d)) (λ y. same (product k (lower d) b y) (oneE d)) (elements k d) (zeroE d)
+    (λ y m.
+    let ly : length y ≡ d = listed-only k d y m .0 in
+    ap (λ z. same z (oneE d)) (product-same k d (lower d) (length-lower d dl dh) a y b y la ly lb ly e refl))
 
 pub length-inverse : (k d : ℕ) (a : Element) → length (inverse k d a) ≡ d
 length-inverse k d a = let e = inverse-element k d a in ap length (sym (e .1)) ∙ length-toList (e .0)

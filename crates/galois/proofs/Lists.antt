@@ -54,6 +54,12 @@ to-of k zero (x ∷ a) l = absurd (suc-ne-zero (length a) l)
 to-of k (suc n) [] l = absurd (suc-ne-zero n (sym l))
 to-of k (suc n) (x ∷ a) l = ap (λ r. x % 2 ^ k ∷ r) (to-of k n a (suc-inj l))
 
+-- words beyond the n-th do not count
+pub of-take : (k n : ℕ) (a : Element) → ofList k n (take n a) ≡ ofList k n a
+of-take k zero a = refl
+of-take k (suc n) [] = refl
+of-take k (suc n) (x ∷ a) = ap (cons (word (2 ^ k) x)) (of-take k n a)
+
 pub toList-inj : (k : ℕ) {n : ℕ} (u v : Vec (Word (2 ^ k)) n) → toList u ≡ toList v → u ≡ v
 toList-inj k {n} u v e = sym (of-to k u) ∙ ap (ofList k n) e ∙ of-to k v
 
@@ -91,6 +97,11 @@ reduce-width k [] h = refl
 reduce-width k (x ∷ a) h =
     ap₂ _∷_ (mod-eq-of-lt (ltb-true x (2 ^ k) (and-left (ltb x (2 ^ k)) (allInWidth k a) h)))
     (reduce-width k a (and-right (ltb x (2 ^ k)) (allInWidth k a) h))
+
+pub reduce-below : (k : ℕ) (a : Element) → ((j : ℕ) → getD a j 0 < 2 ^ k) → reduce k a ≡ a
+unfolding reduce
+reduce-below k [] fit = refl
+reduce-below k (x ∷ a) fit = ap₂ _∷_ (mod-eq-of-lt (fit 0)) (reduce-below k a (λ j. fit (suc j)))
 
 pub width-reduce : (k : ℕ) (a : Element) → allInWidth k (reduce k a) ≡ true
 unfolding reduce allInWidth

@@ -1,15 +1,15 @@
--- Words of k bits may be cut to j bits at any time: a sum at k bits, cut to j, is the one at j bits
--- (`reduce-product` of Lists says so of a product). And the cut of an array of six. Assumes nothing.
+-- Words of k bits may be cut to j bits at any time: a sum at k bits, cut to j, is the one at j bits (`reduce-product` of Lists says so of a
+-- product), and the cut of an operand to as many bits as its result has changes nothing. And the cut of an array of six. Assumes nothing.
 use mathlib.Core.Path.{_≡_, refl, sym, ap, ap₂, _∙_}
 use mathlib.Core.List.{[], _∷_, _++_}
 use Prim.Native.Nat.{ℕ, zero, suc, _+_, _-_, _%_, _^_, _≤_}
-use native.Mathlib.Nat.{zero-mod, le-of-eq, add-mod-mod}
+use native.Mathlib.Nat.{zero-mod, le-of-eq, le-refl, add-comm, add-mod-mod}
 use lib.ListN.{length, getD, take}
 use lib.Seq.{take-all}
 use Rattle.words.specs.Word.{addW}
 use Rattle.words.proofs.Mod.{mod-narrow}
 use Rattle.galois.specs.Element.{Element, zeroE, zip, sum, lower, product, reduce, held}
-use Rattle.galois.proofs.Lists.{length-reduce, length-product, reduce-product}
+use Rattle.galois.proofs.Lists.{length-reduce, length-product, of-reduce, reduce-product, product-same}
 use Rattle.galois.proofs.Table.{length-lower}
 use Rattle.galois.proofs.Zip.{six-words}
 use Rattle.galois.proofs.Held.{zeros-after}
@@ -35,6 +35,21 @@ unfolding zip reduce addW
 sum-reduce j [] b = refl
 sum-reduce j (x ∷ a) [] = refl
 sum-reduce j (x ∷ a) (y ∷ b) = ap₂ _∷_ (add-mod-mod x y (2 ^ j)) (sum-reduce j a b)
+
+pub sum-comm : (k : ℕ) (a b : Element) → sum k a b ≡ sum k b a
+unfolding zip addW
+sum-comm k [] [] = refl
+sum-comm k [] (y ∷ b) = refl
+sum-comm k (x ∷ a) [] = refl
+sum-comm k (x ∷ a) (y ∷ b) = ap₂ _∷_ (ap (λ (z : ℕ). z % 2 ^ k) (add-comm x y)) (sum-comm k a b)
+
+pub reduce-left : (k : ℕ) (a b : Element) → sum k (reduce k a) b ≡ sum k a b
+reduce-left k a b = sum-comm k (reduce k a) b ∙ sum-reduce k b a ∙ sum-comm k b a
+
+pub product-reduce : (k d : ℕ) → 2 ≤ d → d ≤ 6 → (a b : Element) → length a ≡ d → length b ≡ d
+    → product k (lower d) a (reduce k b) ≡ product k (lower d) a b
+product-reduce k d dl dh a b l m =
+    product-same k d (lower d) (length-lower d dl dh) a (reduce k b) a b l (length-reduce k b ∙ m) l m refl (of-reduce (le-refl k) d b)
 
 -- arrays of six
 pub reduce-six : (k : ℕ) (a : Element) → length a ≡ 6

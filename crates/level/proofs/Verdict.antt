@@ -1,7 +1,7 @@
 -- What one level decides: the shares whose gap is not zero once t + 1 trusted shares are in are those that differ from the only polynomial
 -- that can be the codeword, and by counting them the codeword is found, if there is one; without t + 1 trusted shares there is none.
 -- Assumes nothing.
-use mathlib.Core.Path.{_≡_, refl, sym, _∙_, ap, ap₂, subst⁻¹}
+use mathlib.Core.Path.{_≡_, refl, sym, _∙_, ap, subst⁻¹}
 use mathlib.Core.Bool.{Bool, true, false, not, cond}
 use mathlib.Core.Logic.{_⊎_, inl, inr}
 use mathlib.Core.List.{List, [], _∷_, map}
@@ -25,14 +25,15 @@ use Rattle.algebra.proofs.Interpolation.{interp, length-interp}
 use Rattle.algebra.proofs.KeyEquation.{Pairs, Inv, run, inv-run}
 use Rattle.galois.specs.Element.{point}
 use Rattle.galois.proofs.Galois.{GR}
-use Rattle.galois.proofs.Lists.{toList, of-to, to-of}
+use Rattle.galois.proofs.Lists.{toList, to-of}
 use Rattle.galois.proofs.Points.{to-point}
 use Rattle.galois.proofs.Field.{is-field}
 use Rattle.galois.proofs.Instance.{ringOf}
 use Rattle.codewords.specs.Codeword.{Share, Polynomial, differs, errors, errorSet, codeword, when}
 use Rattle.codewords.specs.WellFormed.{IsElement, InWidth, Holders}
 use Rattle.codewords.proofs.Find.{fixed}
-use Rattle.codewords.proofs.Value.{shareOf, polyOf, rows-of, differs-misses}
+use Rattle.codewords.proofs.Value.{shareOf, rows-of, differs-misses}
+use Rattle.codewords.proofs.Unique.{poly-back}
 use Rattle.codewords.proofs.ErrorSet.{or-new, bit-clear, ones-errors}
 use Rattle.codewords.proofs.Candidate.{poly-of, chosen, too-few}
 use Rattle.sliced.specs.Lane.{lane, supportOf}
@@ -45,10 +46,6 @@ use Rattle.level.proofs.Lanes.{Lanes, lanes-same, in-support}
 use Rattle.level.proofs.Located.{locates}
 use Rattle.level.proofs.Trusted.{Gathered, gathered-all}
 use Rattle.level.proofs.Shares.{holders-drop}
-
-poly-back : (d : ℕ) (f : List (GR d 1 .E)) → polyOf 1 d (map toList f) ≡ f
-poly-back d [] = refl
-poly-back d (c ∷ f) = ap₂ _∷_ (of-to 1 c) (poly-back d f)
 
 count-map : (d : ℕ) (U : A.Share (GR d 1) → Bool) (ss : List Share) → count (λ s. U (shareOf 1 d s)) ss ≡ count U (map (shareOf 1 d) ss)
 count-map d U [] = refl
@@ -180,7 +177,7 @@ module _ (d : ℕ) (dl : 2 ≤ d) (dh : d ≤ 6) (t e : ℕ) (ss : List Share) (
         ∙ ap not (zero-gap D (g .u) (eval R f (sh i .at)) (sh i .val) (g .unit))
         ∙ sym
         (differs-misses d dl dh 1 c (rows-of 1 d t c (poly-of 1 d t f lf)) (getD ss i s₀) (element i h)
-        ∙ ap (λ y. misses D y (sh i)) (poly-back d f))
+        ∙ ap (λ y. misses D y (sh i)) (poly-back 1 d f))
 
     wrong-set : holderSet (supportOf d (p .gap)) hs 0 m ≡ errorSet 1 d c ss
     wrong-set =

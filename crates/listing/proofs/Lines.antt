@@ -1,23 +1,23 @@
 -- The line of a place from the answer that the code has: the words of an opened job are in width, and the line says the answer. Assumes nothing.
 use mathlib.Core.Path.{_≡_, refl, sym, ap, ap₂, _∙_, subst}
 use mathlib.Core.Bool.{true}
-use mathlib.Core.List.{List, [], _∷_, map}
+use mathlib.Core.List.{List, [], map}
 use mathlib.Core.Option.{Option, none, some}
 use Prim.Native.Nat.{ℕ, _+_, _*_, _≤_}
-use native.Mathlib.Nat.{suc-ne-zero}
 use native.Mathlib.Decide.{decLe}
 use native.Mathlib.Omega.{arith}
-use lib.ListN.{length, getD, take}
+use lib.ListN.{length, take}
 use Rattle.words.specs.Word.{allInWidth}
 use Rattle.words.specs.declared.Params.{Params}
 use Rattle.words.proofs.Tests.{bool-cases}
 use Rattle.galois.specs.Element.{zeroE, held}
 use Rattle.galois.proofs.Held.{held-take}
 use Rattle.codewords.specs.Codeword.{Share, Polynomial, codeword}
-use Rattle.codewords.specs.WellFormed.{IsElement, IsPoly}
+use Rattle.codewords.specs.WellFormed.{IsElement}
+use Rattle.codewords.proofs.Value.{free-element}
 use Rattle.codewords.proofs.Unique.{codeword-sound}
 use Rattle.sharing.specs.Opening.{Opening, declines, gives, faultOf, wrongOf, wordsOf, answerTo}
-use Rattle.sharing.proofs.Opens.{answer-few, answer-from}
+use Rattle.sharing.proofs.Opens.{gives-not, answer-few, answer-from}
 use Rattle.sharing.proofs.Answers.{Given}
 use Rattle.archive.specs.Archive.{paramsOf, allowanceOf, sharesAt, filesInWidth, placeOpening}
 use Rattle.archive.proofs.Faults.{place-wide, place-narrow, place-given}
@@ -32,32 +32,24 @@ use Rattle.listing.specs.Listing.{lineBy, lineOf}
 abbrev pub Element-given : ℕ → ℕ → Opening → Type 0
 Element-given k d o = (w : ℕ) (ws : List ℕ) → o ≡ gives w ws → IsElement k d ws
 
-apart : {c w : ℕ} {ws : List ℕ} → (c ≡ 0 → ⊥) → declines c ≡ gives w ws → ⊥
-apart n e = n (ap faultOf e)
-
--- the free term of a polynomial
-free-term : (k d t : ℕ) (q : Polynomial) → IsPoly k d t q → IsElement k d (getD q 0 [])
-free-term k d t [] h = absurd (suc-ne-zero t (sym (h .0)))
-free-term k d t (c ∷ q) h = h .1 .0
-
 answer-element : (p : Params) (e : ℕ) (ss : List Share) → Element-given (p .k) (p .d) (answerTo p e ss)
 answer-element p e ss w ws g = at (decLe (p .t + 1 + 2 * e) (length ss))
   where
     go : p .t + 1 + 2 * e ≤ length ss → (u : Option Polynomial) → codeword (p .k) (p .d) (p .t) e ss ≡ u → IsElement (p .k) (p .d) ws
-    go h none c = absurd (apart (suc-ne-zero 5) (sym (answer-from p e ss none h c) ∙ g))
+    go h none c = gives-not (sym g ∙ answer-from p e ss none h c)
     go h (some q) c =
         subst (IsElement (p .k) (p .d)) (ap (wordsOf []) (sym (answer-from p e ss (some q) h c) ∙ g))
-        (free-term (p .k) (p .d) (p .t) q (codeword-sound (p .k) (p .d) (p .t) e ss q c .0))
+        (free-element (p .k) (p .d) (p .t) q (codeword-sound (p .k) (p .d) (p .t) e ss q c .0))
 
     at : Dec (p .t + 1 + 2 * e ≤ length ss) → IsElement (p .k) (p .d) ws
     at (yes h) = go h (codeword (p .k) (p .d) (p .t) e ss) refl
-    at (no h) = absurd (apart (suc-ne-zero 4) (sym (answer-few p e ss (omega arith)) ∙ g))
+    at (no h) = gives-not (sym g ∙ answer-few p e ss (omega arith))
 
 pub place-element : (bs : List ℕ) (p : ℕ) → Element-given (paramsOf bs .k) (paramsOf bs .d) (placeOpening bs p)
 place-element bs p w ws g =
     bool-cases (filesInWidth bs p 1)
     (λ e. answer-element (paramsOf bs) (allowanceOf bs) (sharesAt bs p) w ws (sym (place-narrow bs p e) ∙ g))
-    (λ e. absurd (apart (suc-ne-zero 2) (sym (place-wide bs p e) ∙ g)))
+    (λ e. gives-not (sym g ∙ place-wide bs p e))
 
 -- ---- the line of a place of an accepted bundle, by its first heading, the job's number and the answer's parts
 

@@ -11,18 +11,17 @@ use Rattle.words.specs.Word.{subW}
 use Rattle.algebra.specs.Ring.{CommRing}
 use Rattle.algebra.specs.Poly.{eval}
 use Rattle.algebra.specs.Shares.{All}
-use Rattle.galois.specs.Element.{Element, difference, lower, product, zeroE, oneE, reduce, same, elements, inverse, held}
+use Rattle.galois.specs.Element.{Element, difference, lower, product, reduce, inverse, held}
 use Rattle.galois.proofs.Galois.{GR}
 use Rattle.galois.proofs.Table.{length-lower}
-use Rattle.galois.proofs.Lists.{toList, ofList, length-reduce, length-zip, length-product, to-of, of-reduce}
-use Rattle.galois.proofs.Lists.{difference-of, of-difference, of-product, product-same}
-use Rattle.galois.proofs.Elements.{listed-only, first-same}
-use Rattle.galois.proofs.Inverse.{length-inverse}
+use Rattle.galois.proofs.Lists.{toList, ofList, length-reduce, length-zip, length-product, of-take, to-of, of-reduce}
+use Rattle.galois.proofs.Lists.{difference-of, of-difference, of-product}
+use Rattle.galois.proofs.Inverse.{length-inverse, inverse-same}
 use Rattle.galois.proofs.Narrow.{reduce-zeros, reduce-held}
 use Rattle.polynomial.specs.Polynomial.{value}
 use Rattle.polynomial.specs.Rows.{Rows, coefs, change, lessTimes, lessMultiple, subtractRows, rootRows, excess, extendRows, reduceRows}
 use Rattle.polynomial.proofs.Change.{change-map-all}
-use Rattle.polynomial.proofs.OverRing.{polyOf, of-take, value-rows, value-length, value-reduced}
+use Rattle.polynomial.proofs.OverRing.{polyOf, value-rows, value-length, value-reduced}
 use Rattle.polynomial.proofs.Turns.{product-length, difference-length, excessBy}
 
 abbrev Six : List ℕ → Type 0
@@ -35,15 +34,6 @@ rows-six j (a ∷ p) (l, ls) = (length-reduce j a ∙ l, rows-six j p ls)
 poly-reduce : (j d : ℕ) (p : Rows) → polyOf j d (reduceRows j p) ≡ polyOf j d p
 poly-reduce j d [] = refl
 poly-reduce j d (a ∷ p) = ap₂ _∷_ (of-reduce (le-refl j) d a) (poly-reduce j d p)
-
--- the inverse depends on the words modulo 2^k alone
-inverse-same : (k d : ℕ) → 2 ≤ d → d ≤ 6 → (a b : Element) → length a ≡ d → length b ≡ d → ofList k d a ≡ ofList k d b → inverse k d a ≡ inverse k d b
-unfolding inverse
-inverse-same k d dl dh a b la lb e =
-    first-same (λ y. same (product k (lower d) a y) (oneE d)) (λ y. same (product k (lower d) b y) (oneE d)) (elements k d) (zeroE d)
-    (λ y m.
-    let ly : length y ≡ d = listed-only k d y m .0 in
-    ap (λ z. same z (oneE d)) (product-same k d (lower d) (length-lower d dl dh) a y b y la ly lb ly e refl))
 
 module _ {j k : ℕ} (h : j ≤ k) (d : ℕ) (dl : 2 ≤ d) (dh : d ≤ 6) where
   infixl 65 _⊕_

@@ -2,8 +2,7 @@
 -- and a value in more bits, cut to fewer, is the one at fewer. Assumes nothing.
 use mathlib.Core.Path.{_≡_, refl, sym, _∙_, ap, ap₂}
 use mathlib.Core.List.{List, [], _∷_, map}
-use Prim.Native.Nat.{ℕ, zero, suc, _^_, _≤_, _<_}
-use native.Mathlib.Nat.{le-refl}
+use Prim.Native.Nat.{ℕ, zero, suc, _≤_, _<_}
 use native.Mathlib.Omega.{arith}
 use lib.ListN.{length, take, replicate, length-map}
 use lib.Seq.{length-take-le}
@@ -11,25 +10,17 @@ use Rattle.algebra.specs.Ring.{CommRing}
 use Rattle.algebra.specs.Poly.{eval, coef}
 use Rattle.algebra.specs.Shares.{All}
 use Rattle.algebra.proofs.Ring.{mul-zero, add-zero}
-use Rattle.algebra.proofs.Vec.{cons}
 use Rattle.algebra.proofs.Poly.{Low, Same, lin, mulx, eval-same, same-take}
 use Rattle.galois.specs.Element.{Element, sum, difference, lower, product, oneE, reduce, held}
-use Rattle.galois.proofs.Zmod.{word}
 use Rattle.galois.proofs.Galois.{GR}
 use Rattle.galois.proofs.Table.{length-lower}
-use Rattle.galois.proofs.Lists.{toList, ofList, length-toList, of-to, to-of, sum-of, difference-to, product-of, zero-of, one-of}
-use Rattle.galois.proofs.Lists.{length-reduce, of-reduce, reduce-product, product-same}
+use Rattle.galois.proofs.Lists.{toList, ofList, length-toList, of-to, of-take, to-of, sum-of, difference-to, product-of, zero-of, one-of}
+use Rattle.galois.proofs.Lists.{reduce-product}
 use Rattle.galois.proofs.Held.{held-take, held-length, zeros-held, to-six}
-use Rattle.galois.proofs.Narrow.{reduce-zeros, reduce-sum, reduce-held, sum-reduce}
+use Rattle.galois.proofs.Narrow.{reduce-zeros, reduce-sum, reduce-held, sum-reduce, product-reduce}
 use Rattle.polynomial.specs.Polynomial.{Polynomial, value}
 use Rattle.polynomial.specs.Rows.{Rows, coefs, change, lessTimes, lessMultiple, subtractRows, rootRows}
 use Rattle.polynomial.proofs.Change.{change-map, change-lin, change-mulx}
-
--- words beyond the n-th do not count
-pub of-take : (k n : ℕ) (a : Element) → ofList k n (take n a) ≡ ofList k n a
-of-take k zero a = refl
-of-take k (suc n) [] = refl
-of-take k (suc n) (x ∷ a) = ap (cons (word (2 ^ k) x)) (of-take k n a)
 
 module _ (k d : ℕ) where
   -- the row of an element, and the polynomial of rows
@@ -188,12 +179,6 @@ module _ (k d : ℕ) where
       root-same m l h low j =
           ap (λ us. coef (GR d k) us j) (poly-by (rootRows k d n x p) (change rootOf n (𝟘 ∷ polyOf p) (polyOf p)) root-rows)
           ∙ change-mulx (GR d k) (ofList k d x) n m (polyOf p) l (rw (length-map p (ofList k d)) h) low j
-
--- a product depends on its second factor's words modulo 2^k alone
-pub product-reduce : (k d : ℕ) → 2 ≤ d → d ≤ 6 → (a b : Element) → length a ≡ d → length b ≡ d
-    → product k (lower d) a (reduce k b) ≡ product k (lower d) a b
-product-reduce k d dl dh a b l m =
-    product-same k d (lower d) (length-lower d dl dh) a (reduce k b) a b l (length-reduce k b ∙ m) l m refl (of-reduce (le-refl k) d b)
 
 -- fewer bits of a value
 pub reduce-value : {j k : ℕ} → j ≤ k → (d : ℕ) → 2 ≤ d → d ≤ 6 → (cs : Polynomial) (x : Element) → All (λ c. length c ≡ d) cs → length x ≡ d

@@ -3,7 +3,7 @@
 use mathlib.Core.Path.{_≡_, refl, sym, _∙_, ap, ap₂}
 use mathlib.Core.List.{List, [], _∷_}
 use Prim.Native.Nat.{ℕ, zero, suc, _+_, _-_, _^_, _≤_, _<_}
-use native.Mathlib.Nat.{le-of-eq, le-refl, not-suc-le-zero, mod-eq-of-lt}
+use native.Mathlib.Nat.{le-of-eq, le-refl, not-suc-le-zero}
 use native.Mathlib.Omega.{arith}
 use lib.ListN.{length, getD, take, drop, set, replicate, drop-of-length-le, length-map, List·getD-map}
 use lib.Seq.{paste, drop-cons, length-take-le, getD-take, take-nil}
@@ -11,22 +11,16 @@ use Rattle.words.specs.Word.{addW, subW}
 use Rattle.words.proofs.Fill.{fill-next, fill-ahead}
 use Rattle.galois.specs.Element.{Element, sum, difference, lower, product, reduce, inverse, held}
 use Rattle.galois.proofs.Table.{length-lower}
-use Rattle.galois.proofs.Lists.{length-zip, length-product}
+use Rattle.galois.proofs.Lists.{length-zip, length-product, reduce-below}
 use Rattle.galois.proofs.Inverse.{length-inverse}
 use Rattle.galois.proofs.Zip.{zip-take}
 use Rattle.galois.proofs.Held.{held-take, held-length, held-same, zeros-held}
-use Rattle.galois.proofs.Narrow.{reduce-sum, reduce-held}
+use Rattle.galois.proofs.Narrow.{reduce-sum, reduce-held, product-reduce}
 use Rattle.polynomial.specs.Polynomial.{Polynomial, value}
 use Rattle.polynomial.specs.Rows.{Rows, Shaped, coefs, change, lessTimes, lessMultiple, subtractRows, rootRows}
 use Rattle.polynomial.proofs.Change.{length-change, change-at, change-all}
 use Rattle.polynomial.proofs.Shape.{shaped-length, shaped-all, shaped-by}
-use Rattle.polynomial.proofs.OverRing.{value-last, product-reduce}
-
--- words below 2^k are not cut
-reduce-below : (k : ℕ) (a : Element) → ((j : ℕ) → getD a j 0 < 2 ^ k) → reduce k a ≡ a
-unfolding reduce
-reduce-below k [] fit = refl
-reduce-below k (x ∷ a) fit = ap₂ _∷_ (mod-eq-of-lt (fit 0)) (reduce-below k a (λ j. fit (suc j)))
+use Rattle.polynomial.proofs.OverRing.{value-last}
 
 -- how much of m is to be taken off q, as `excess` but in words of k bits, and the inverse at j
 abbrev pub excessBy : ℕ → ℕ → ℕ → ℕ → Rows → Rows → Element → Element → Element

@@ -1,34 +1,25 @@
 -- Horner's rule from the last coefficient on, as dealing evaluates: what the coefficients from the i-th on add to the value stands in an
 -- array (`horner-start`), one coefficient more is the array's sum with it, times the point (`horner-turn`), and the free term's sum with the
 -- array is the value (`horner-end`). And a value in more bits, cut to fewer, is the one at fewer (`narrow-value`). Assumes nothing.
-use mathlib.Core.Path.{_≡_, refl, sym, _∙_, ap, ap₂}
+use mathlib.Core.Path.{_≡_, sym, _∙_, ap}
 use mathlib.Core.List.{List, [], _∷_}
-use Prim.Native.Nat.{ℕ, _-_, _*_, _%_, _^_, _≤_, _<_}
-use native.Mathlib.Nat.{add-comm}
+use Prim.Native.Nat.{ℕ, _-_, _*_, _≤_, _<_}
 use native.Mathlib.Omega.{arith}
 use lib.ListN.{length, take, drop, length-replicate}
-use Rattle.words.specs.Word.{addW}
 use Rattle.algebra.specs.Poly.{eval}
 use Rattle.algebra.proofs.Ring.{mul-zero}
-use Rattle.galois.specs.Element.{Element, zip, sum, lower, product, zeroE, point, reduce, held}
+use Rattle.galois.specs.Element.{Element, sum, lower, product, zeroE, point, reduce, held}
 use Rattle.galois.proofs.Galois.{GR}
 use Rattle.galois.proofs.Table.{length-lower}
 use Rattle.galois.proofs.Lists.{toList, ofList, length-toList, length-product, product-of, zero-of, of-zero}
 use Rattle.galois.proofs.Points.{length-point}
 use Rattle.galois.proofs.Held.{held-take, zeros-held, sum-held}
-use Rattle.galois.proofs.Narrow.{reduce-held}
+use Rattle.galois.proofs.Narrow.{sum-comm, reduce-held}
 use Rattle.polynomial.specs.Polynomial.{Polynomial, value}
-use Rattle.polynomial.proofs.OverRing.{reduce-value}
-use Rattle.codewords.proofs.Value.{Rows, polyOf, value-of}
+use Rattle.polynomial.proofs.OverRing.{polyOf, value-of, reduce-value}
+use Rattle.codewords.proofs.Value.{Rows}
 use Rattle.sharing.specs.Dealing.{elementsOf}
 use Rattle.sharing.proofs.Elements.{held-cut, elementsFrom, from-none, from-more, from-all, from-rows}
-
-sum-comm : (k : ℕ) (a b : Element) → sum k a b ≡ sum k b a
-unfolding zip addW
-sum-comm k [] [] = refl
-sum-comm k [] (y ∷ b) = refl
-sum-comm k (x ∷ a) [] = refl
-sum-comm k (x ∷ a) (y ∷ b) = ap₂ _∷_ (ap (λ (z : ℕ). z % 2 ^ k) (add-comm x y)) (sum-comm k a b)
 
 -- what coefficients add to the value where another stands below them: the point times their own value
 abbrev pub above : ℕ → ℕ → Element → Polynomial → Element
@@ -36,7 +27,7 @@ above k d x q = product k (lower d) x (value k d q x)
 
 module _ (k d : ℕ) (dl : 2 ≤ d) (dh : d ≤ 6) (x : Element) (lx : length x ≡ d) where
   value-length : (q : Polynomial) → Rows d q → length (value k d q x) ≡ d
-  value-length q rows = ap length (value-of d dl dh k q rows x lx) ∙ length-toList (eval (GR d k) (polyOf k d q) (ofList k d x))
+  value-length q rows = ap length (value-of k d dl dh q x rows lx) ∙ length-toList (eval (GR d k) (polyOf k d q) (ofList k d x))
 
   above-length : (q : Polynomial) → Rows d q → length (above k d x q) ≡ d
   above-length q rows =

@@ -52,7 +52,7 @@ pub record Source (p : Params) (ss : List Share) (e w : ℕ) (ws : List ℕ) : T
   pub names : w ≡ errorSet (p .k) (p .d) q ss
   pub free-term : ws ≡ getD q 0 []
 
-gives-inj : {w v : ℕ} {ws vs : List ℕ} → gives w ws ≡ gives v vs → (w ≡ v) × (ws ≡ vs)
+pub gives-inj : {w v : ℕ} {ws vs : List ℕ} → gives w ws ≡ gives v vs → (w ≡ v) × (ws ≡ vs)
 gives-inj e = (ap wrong e, ap words e)
   where
     wrong : Opening → ℕ
@@ -63,8 +63,12 @@ gives-inj e = (ap wrong e, ap words e)
     words (declines c) = []
     words (gives w ws) = ws
 
-gives-not : {c w : ℕ} {ws : List ℕ} → declines (suc c) ≡ gives w ws → ⊥
-gives-not e = absurd (let z : suc _ ≡ 0 = ap faultOf e in omega (arith, z))
+pub gives-not : {X : Type 0} {w c : ℕ} {ws : List ℕ} → gives w ws ≡ declines c → X
+gives-not e = absurd (let z : _≡_ {A = ℕ} 0 1 = ap side e in omega arith)
+  where
+    side : Opening → ℕ
+    side (declines c) = 1
+    side (gives w ws) = 0
 
 module _ (p : Params) (hs ws : List ℕ) (e n : ℕ) (clear : lentFault p hs ws n ≡ 0) where
   abbrev ss : List Share
@@ -93,7 +97,7 @@ module _ (p : Params) (hs ws : List ℕ) (e n : ℕ) (clear : lentFault p hs ws 
     found w vs g = go (codeword (p .k) (p .d) (p .t) e ss) refl
       where
         go : (o : Option Polynomial) → codeword (p .k) (p .d) (p .t) e ss ≡ o → Source p ss e w vs
-        go none c = absurd (gives-not (sym (from none c) ∙ g))
+        go none c = gives-not (sym g ∙ from none c)
         go (some q) c =
             let s = codeword-sound (p .k) (p .d) (p .t) e ss q c in
             let i = gives-inj (sym g ∙ from (some q) c) in

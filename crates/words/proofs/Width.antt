@@ -1,17 +1,19 @@
--- Words in width, one and in a list. Assumes nothing.
+-- Words in width: one, two together, and those of a list. Assumes nothing.
 use mathlib.Core.Path.{_≡_, refl, subst}
-use mathlib.Core.Bool.{true, false}
+use mathlib.Core.Bool.{true, false, _&&_}
 use mathlib.Core.List.{List, [], _∷_}
 use Prim.Native.Nat.{ℕ, zero, suc, _+_, _%_, _^_, _<_}
 use native.Mathlib.Nat.{mod-lt, mod-eq-of-lt, not-suc-le-zero, le-of-suc-le-suc}
 use native.Mathlib.Numerals.{add-one}
 use borrow.Author.Tests.{eq-eqb, eqb-true, ltb-true, lt-ltb}
+use native.Mathlib.Omega.{arith}
+use lib.Bits.{bitOr, or-lt, or-add-and, and-le-r, and-le-l}
 use lib.Dec.{eqb}
 use lib.Pow.{pow-pos}
 use lib.ListN.{length, drop, getD}
 use lib.Seq.{drop-cons}
 use Rattle.words.specs.Word.{inWidth, allInWidth}
-use Rattle.words.proofs.Tests.{and-left, and-right, and-yes, and-no, same-test}
+use Rattle.words.proofs.Tests.{and-left, and-right, and-both, and-yes, and-no, same-test}
 
 -- a word is in width when the cut to k bits leaves it
 pub cut-test : (k w : ℕ) → eqb (w % 2 ^ k) w ≡ inWidth k w
@@ -28,6 +30,16 @@ in-width-lt k w e = ltb-true w (2 ^ k) e
 pub lt-in-width : (k w : ℕ) → w < 2 ^ k → inWidth k w ≡ true
 unfolding inWidth
 lt-in-width k w h = lt-ltb w (2 ^ k) h
+
+-- two words together, bit by bit
+pub or-width : (k x y : ℕ) → inWidth k (bitOr x y) ≡ (inWidth k x && inWidth k y)
+or-width k x y =
+    same-test (inWidth k (bitOr x y)) (inWidth k x && inWidth k y)
+    (λ e. (let h = in-width-lt k (bitOr x y) e in
+    and-both (inWidth k x) (inWidth k y) (lt-in-width k x (omega (arith, h, or-add-and x y, and-le-r x y)))
+    (lt-in-width k y (omega (arith, h, or-add-and x y, and-le-l x y)))))
+    (λ e. lt-in-width k (bitOr x y)
+    (or-lt k x y (in-width-lt k x (and-left (inWidth k x) (inWidth k y) e)) (in-width-lt k y (and-right (inWidth k x) (inWidth k y) e))))
 
 -- the word at i decides, or the rest does
 pub width-no : (k : ℕ) (s : List ℕ) (i : ℕ) → i < length s → inWidth k (getD s i 0) ≡ false → allInWidth k (drop i s) ≡ false
