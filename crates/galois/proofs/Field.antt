@@ -17,13 +17,13 @@ use Rattle.galois.specs.Element.{Element, lower, product, zeroE, oneE, r
 use Rattle.galois.proofs.Zmod.{Word}
 use Rattle.galois.proofs.Galois.{GR, modulus, low, unit-of-low}
 use Rattle.galois.proofs.Table.{passes, passes-at, length-lower}
-use Rattle.galois.proofs.Lists.{toList, ofList, length-toList, length-reduce, length-product, length-one, of-to, to-of, of-reduce, reduce-to, of-zero, of-one, of-product, product-same}
+use Rattle.galois.proofs.Lists.{toList, ofList, length-toList, length-reduce, length-product, of-to, to-of, of-reduce, reduce-to, of-zero, of-one, of-product, product-same}
 use Rattle.galois.proofs.Elements.{same-eq, listed, every, every-at}
 
 -- a is zero, or a^(2^d - 2) is its inverse modulo two
 unfoldable pub fieldAt : ℕ → Element → Bool
 unfolding fermat same
-fieldAt d a = same a (zeroE d) || same (product 1 (lower d) a (fermat d a (d - 1))) (oneE d)
+fieldAt d a = same a (zeroE d) || same (product 1 (lower d) a (fermat d a (d - 2))) (oneE d)
 
 -- the rows 2 to 6, and all elements modulo two of each
 pub table-field : passes (λ d. every (fieldAt d) (elements 1 d)) 2 5 ≡ true
@@ -34,11 +34,11 @@ or-right : (a b : Bool) → (a || b) ≡ true → (a ≡ true → ⊥) → b ≡
 or-right true b t n = absurd (n refl)
 or-right false b t n = t
 
-field-at : (d : ℕ) (r : Element) → fieldAt d r ≡ true → r ≢ zeroE d → product 1 (lower d) r (fermat d r (d - 1)) ≡ oneE d
+field-at : (d : ℕ) (r : Element) → fieldAt d r ≡ true → r ≢ zeroE d → product 1 (lower d) r (fermat d r (d - 2)) ≡ oneE d
 unfolding fieldAt
 field-at d r t n =
-    same-eq (product 1 (lower d) r (fermat d r (d - 1))) (oneE d)
-    (or-right (same r (zeroE d)) (same (product 1 (lower d) r (fermat d r (d - 1))) (oneE d)) t (λ s. n (same-eq r (zeroE d) s)))
+    same-eq (product 1 (lower d) r (fermat d r (d - 2))) (oneE d)
+    (or-right (same r (zeroE d)) (same (product 1 (lower d) r (fermat d r (d - 2))) (oneE d)) t (λ s. n (same-eq r (zeroE d) s)))
 
 -- one is not zero modulo two
 pub one-not-zero : (d : ℕ) → 1 ≤ d → GR d 1 .𝟙 ≢ GR d 1 .𝟘
@@ -51,7 +51,7 @@ module _ (d : ℕ) (dl : 2 ≤ d) (dh : d ≤ 6) where
 
   pub length-fermat : (a : Element) → length a ≡ d → (n : ℕ) → length (fermat d a n) ≡ d
   unfolding fermat
-  length-fermat a l zero = length-one d
+  length-fermat a l zero = length-product 1 (lower d) a a (l ∙ sym len) ∙ len
   length-fermat a l (suc n) =
       let y = product 1 (lower d) (fermat d a n) a in
       let m : length y ≡ length (lower d) = length-product 1 (lower d) (fermat d a n) a (l ∙ sym len) in
@@ -59,7 +59,10 @@ module _ (d : ℕ) (dl : 2 ≤ d) (dh : d ≤ 6) where
 
   fermat-reduce : (a : Element) → length a ≡ d → (n : ℕ) → fermat d (reduce 1 a) n ≡ fermat d a n
   unfolding fermat
-  fermat-reduce a l zero = refl
+  fermat-reduce a l zero =
+      let m : length (reduce 1 a) ≡ d = length-reduce 1 a ∙ l in
+      let e : ofList 1 d (reduce 1 a) ≡ ofList 1 d a = of-reduce (le-refl 1) d a in
+      product-same 1 d (lower d) len (reduce 1 a) (reduce 1 a) a a m m l l e e
   fermat-reduce a l (suc n) =
       let m : length (reduce 1 a) ≡ d = length-reduce 1 a ∙ l in
       let y : product 1 (lower d) (fermat d (reduce 1 a) n) (reduce 1 a) ≡ product 1 (lower d) (fermat d a n) a =
@@ -68,16 +71,16 @@ module _ (d : ℕ) (dl : 2 ≤ d) (dh : d ≤ 6) where
       ap (λ z. product 1 (lower d) z z) y
 
   -- Fermat: for what is not zero modulo two, the chain of squares is an inverse modulo two
-  pub fermat-inverse : (a : Element) → length a ≡ d → reduce 1 a ≢ zeroE d → product 1 (lower d) a (fermat d a (d - 1)) ≡ oneE d
+  pub fermat-inverse : (a : Element) → length a ≡ d → reduce 1 a ≢ zeroE d → product 1 (lower d) a (fermat d a (d - 2)) ≡ oneE d
   fermat-inverse a l n =
       let r = reduce 1 a in
       let m : length r ≡ d = length-reduce 1 a ∙ l in
       let rr : reduce 1 r ≡ r = ap (reduce 1) (sym (to-of 1 d a l)) ∙ reduce-to 1 (ofList 1 d a) ∙ to-of 1 d a l in
       let row : every (fieldAt d) (elements 1 d) ≡ true = passes-at (λ d. every (fieldAt d) (elements 1 d)) 2 5 table-field d dl (omega arith) in
       let t : fieldAt d r ≡ true = every-at (fieldAt d) (elements 1 d) row r (listed 1 d r m rr) in
-      let f : product 1 (lower d) r (fermat d r (d - 1)) ≡ oneE d = field-at d r t n in
-      product-same 1 d (lower d) len a (fermat d a (d - 1)) r (fermat d r (d - 1)) l (length-fermat a l (d - 1)) m (length-fermat r m (d - 1))
-      (sym (of-reduce (le-refl 1) d a)) (ap (ofList 1 d) (sym (fermat-reduce a l (d - 1)))) ∙ f
+      let f : product 1 (lower d) r (fermat d r (d - 2)) ≡ oneE d = field-at d r t n in
+      product-same 1 d (lower d) len a (fermat d a (d - 2)) r (fermat d r (d - 2)) l (length-fermat a l (d - 2)) m (length-fermat r m (d - 2))
+      (sym (of-reduce (le-refl 1) d a)) (ap (ofList 1 d) (sym (fermat-reduce a l (d - 2)))) ∙ f
 
   -- the ring of one bit is a field
   pub is-field : IsField (GR d 1)
@@ -86,10 +89,10 @@ module _ (d : ℕ) (dl : 2 ≤ d) (dh : d ≤ 6) where
       unit : (v : GR d 1 .E) → v ≢ GR d 1 .𝟘 → Unit-of (GR d 1) v
       unit v n =
           let a = toList v in
-          let x = fermat d a (d - 1) in
+          let x = fermat d a (d - 2) in
           let o : reduce 1 a ≢ zeroE d =
           λ z. n (sym (of-to 1 v) ∙ ap (ofList 1 d) (sym (reduce-to 1 v) ∙ z) ∙ of-zero 1 d) in
-          let m : length x ≡ d = length-fermat a (length-toList v) (d - 1) in
+          let m : length x ≡ d = length-fermat a (length-toList v) (d - 2) in
           let p : GR d 1 .mul v (ofList 1 d x) ≡ GR d 1 .𝟙 =
           ap (λ u. GR d 1 .mul u (ofList 1 d x)) (sym (of-to 1 v)) ∙ sym (of-product (le-refl 1) d (lower d) len a x (length-toList v) m)
           ∙ ap (ofList 1 d) (fermat-inverse a (length-toList v) o) ∙ of-one 1 d in

@@ -214,16 +214,24 @@ module _ (d : ℕ) (dl : 2 ≤ d) (dh : d ≤ 6) where
       ap (newton k d a) (newtons-zero k a l n)
       ∙ zero-product k (difference k (twoE d) (product k (lower d) a (zeroE d))) (length-rest k a (zeroE d) l (length-replicate d 0))
 
-  fermat-zero : (a : Element) → length a ≡ d → reduce 1 a ≡ zeroE d → (n : ℕ) → fermat d a (suc n) ≡ zeroE d
-  unfolding fermat
-  fermat-zero a l z n =
-      let y : product 1 (lower d) (fermat d a n) a ≡ zeroE d =
-      product-of 1 d (lower d) len d (fermat d a n) a (length-fermat d dl dh a l n) l
-      ∙ ap (λ v. toList (GR d 1 .mul (ofList 1 d (fermat d a n)) v)) (sym (of-reduce (le-refl 1) d a) ∙ ap (ofList 1 d) z ∙ of-zero 1 d)
-      ∙ ap toList (mul-zero (GR d 1) (ofList 1 d (fermat d a n))) ∙ sym (zero-of 1 d) in
-      ap (λ y. product 1 (lower d) y y) y ∙ zero-product 1 (zeroE d) (length-replicate d 0)
+  product-zero : (a b : Element) → length a ≡ d → length b ≡ d → reduce 1 b ≡ zeroE d → product 1 (lower d) a b ≡ zeroE d
+  product-zero a b l m z =
+      product-of 1 d (lower d) len d a b l m
+      ∙ ap (λ v. toList (GR d 1 .mul (ofList 1 d a) v)) (sym (of-reduce (le-refl 1) d b) ∙ ap (ofList 1 d) z ∙ of-zero 1 d)
+      ∙ ap toList (mul-zero (GR d 1) (ofList 1 d a)) ∙ sym (zero-of 1 d)
 
-  -- a turn of the chain of squares in words of 64 bits, modulo two
+  fermat-zero : (a : Element) → length a ≡ d → reduce 1 a ≡ zeroE d → (n : ℕ) → fermat d a n ≡ zeroE d
+  unfolding fermat
+  fermat-zero a l z zero = product-zero a a l l z
+  fermat-zero a l z (suc n) =
+      ap (λ y. product 1 (lower d) y y) (product-zero (fermat d a n) a (length-fermat d dl dh a l n) l z)
+      ∙ zero-product 1 (zeroE d) (length-replicate d 0)
+
+  -- the chain of squares in words of 64 bits, modulo two: its start, and a turn
+  pub fermat-start : (a : Element) → length a ≡ d → reduce 1 (held d (product 64 (lower d) a a)) ≡ held d (fermat d a 0)
+  unfolding fermat
+  fermat-start a l = narrow-product (omega arith) d dl dh a a l l
+
   pub fermat-turn : (a y : Element) → length a ≡ d → (n : ℕ) → reduce 1 y ≡ held d (fermat d a n)
       → (z : Element) → z ≡ product 64 (lower d) (take d y) a → reduce 1 (held d (product 64 (lower d) z z)) ≡ held d (fermat d a (suc n))
   unfolding fermat
@@ -244,29 +252,26 @@ module _ (d : ℕ) (dl : 2 ≤ d) (dh : d ≤ 6) where
       o : 1 ≤ 64
       o = omega arith
 
-  -- the inverse, computed: d - 1 squares modulo two, then as many steps of Newton as reach k bits, in words of w bits that are cut at the end
+  -- the inverse, computed: the chain of squares modulo two, then as many steps of Newton as reach k bits, in words of w bits that are cut at the end
   pub inverse-computed : (k w : ℕ) → 1 ≤ k → k ≤ w → (a : Element) → length a ≡ d → (n : ℕ) → k ≤ 2 ^ n
-      → reduce k (newtons w d a (fermat d a (d - 1)) n) ≡ inverse k d a
+      → reduce k (newtons w d a (fermat d a (d - 2)) n) ≡ inverse k d a
   inverse-computed k w h v a l n g =
       bool-cases (same (reduce 1 a) (zeroE d)) (λ t. even (same-eq (reduce 1 a) (zeroE d) t))
       (λ f. odd (λ z. true≢false (sym (eq-same (reduce 1 a) (zeroE d) z) ∙ f)))
     where
       y : Element
-      y = fermat d a (d - 1)
+      y = fermat d a (d - 2)
 
       x : Element
       x = newtons w d a y n
 
-      squared : y ≡ fermat d a (suc (d - 2))
-      squared = let e : d - 1 ≡ suc (d - 2) = omega arith in ap (fermat d a) e
-
       even : reduce 1 a ≡ zeroE d → reduce k x ≡ inverse k d a
       even z =
-          ap (λ y. reduce k (newtons w d a y n)) (squared ∙ fermat-zero a l z (d - 2))
+          ap (λ y. reduce k (newtons w d a y n)) (fermat-zero a l z (d - 2))
           ∙ ap (reduce k) (newtons-zero w a l n) ∙ reduce-zeros k d ∙ sym (inverse-even k h a l z)
 
       m : length y ≡ d
-      m = length-fermat d dl dh a l (d - 1)
+      m = length-fermat d dl dh a l (d - 2)
 
       lx : length x ≡ d
       lx = length-newtons w a y l m n

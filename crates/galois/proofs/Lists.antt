@@ -142,10 +142,6 @@ const-suc c d =
     let e : suc d - 1 ≡ d = omega arith in
     ap (λ n. c ∷ take d (replicate n 0)) e ∙ ap (λ r. c ∷ r) (take-all d (zeroE d) (le-of-eq (length-replicate d 0)))
 
-pub length-one : (d : ℕ) → length (oneE d) ≡ d
-length-one zero = refl
-length-one (suc d) = ap length (const-suc 1 d) ∙ ap suc (length-replicate d 0)
-
 -- the operations on words, as those of the ring of words
 module _ (k : ℕ) where
   open CommRing (Zk k) using (add as _⊕_, mul as _⊗_, neg as ⊖)

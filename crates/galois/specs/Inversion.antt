@@ -2,12 +2,12 @@
 use Prim.Native.Nat.{ℕ, zero, suc, _-_}
 use mathlib.Core.List.{_∷_}
 use lib.ListN.{take, replicate}
-use Rattle.galois.specs.Element.{Element, lower, difference, product, oneE}
+use Rattle.galois.specs.Element.{Element, lower, difference, product}
 
--- y starts at one, and is (y a)² modulo two n times: a^(2^(n + 1) - 2)
+-- y starts at a², and is (y a)² modulo two n times: a^(2^(n + 2) - 2)
 unfoldable pub fermat : ℕ → Element → ℕ → Element
 unfolding product
-fermat d a zero = oneE d
+fermat d a zero = product 1 (lower d) a a
 fermat d a (suc n) =
     let y = product 1 (lower d) (fermat d a n) a in
     product 1 (lower d) y y

@@ -240,10 +240,10 @@ pub fn product_by_point(k: u64, d: usize, a: [u64; 6], i: u64) -> [u64; 6]
 // a^(2^d - 2) in words of 64 bits, which modulo two is the inverse of what has one there.
 fn fermat_by(d: usize, a: [u64; 6]) -> [u64; 6]
     requires { ⌜ (2 ≤ d) × (d ≤ 6) ⌝ }
-    ensures { λ r. ⌜ reduce 1 r ≡ held d (fermat d (take d a) (d - 1)) ⌝ }
+    ensures { λ r. ⌜ reduce 1 r ≡ held d (fermat d (take d a) (d - 2)) ⌝ }
 {
-    let mut y = [1, 0, 0, 0, 0, 0];
-    let mut i = 1;
+    let mut y = product64(d, a, a);
+    let mut i = 2;
     while i < d {
         let z = product64(d, y, a);
         y = product64(d, z, z);
@@ -255,7 +255,7 @@ fn fermat_by(d: usize, a: [u64; 6]) -> [u64; 6]
 // The same, with code for each d.
 fn fermat64(d: usize, a: [u64; 6]) -> [u64; 6]
     requires { ⌜ (2 ≤ d) × (d ≤ 6) ⌝ }
-    ensures { λ r. ⌜ reduce 1 r ≡ held d (fermat d (take d a) (d - 1)) ⌝ }
+    ensures { λ r. ⌜ reduce 1 r ≡ held d (fermat d (take d a) (d - 2)) ⌝ }
 {
     match d {
         2 => fermat_by(2, a),

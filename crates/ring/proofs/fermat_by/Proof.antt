@@ -9,26 +9,35 @@ use Rattle.galois.specs.Element.{product, lower, reduce, held}
 use Rattle.galois.specs.Inversion.{fermat}
 use Rattle.galois.proofs.Table.{length-lower}
 use Rattle.galois.proofs.Lists.{length-product}
-use Rattle.galois.proofs.Inverse.{fermat-turn}
-use Rattle.galois.proofs.Held.{held-take, const-held}
+use Rattle.galois.proofs.Inverse.{fermat-start, fermat-turn}
+use Rattle.galois.proofs.Held.{held-take}
 use Rattle.ring.proofs.fermat_by.Statement.{statement}
 use Rattle.ring.proofs.fermat_by.Tie as tie
 
 abbrev Inv-loop : tie.InvT-loop
-Inv-loop d a y₀ i₀ y i = (1 ≤ i) × (i ≤ d) × (reduce 1 y ≡ held d (fermat d (take d a) (i - 1)))
+Inv-loop d a y₀ i₀ y i = (2 ≤ i) × (i ≤ d) × (reduce 1 y ≡ held d (fermat d (take d a) (i - 2)))
 
 abbrev μ-loop : tie.MeasureT-loop
 μ-loop d a y₀ i₀ y i = d - i
 
-loop-holds : tie.Need-loop-holds Inv-loop μ-loop
-unfolding fermat reduce
-loop-holds c = (search needs, search needs, sym (const-held 1 (c .args .d) (omega arith) (omega arith)))
-
 product64-requires : tie.Need-product64-requires Inv-loop μ-loop
 product64-requires c κs = search needs
 
+loop-holds : tie.Need-loop-holds Inv-loop μ-loop
+loop-holds c =
+    let d = c .before .args .d in
+    let h₆ : length (c .before .args .a) ≡ 6 = omega (arith, c .before .good) in (
+      search needs,
+      search needs,
+      ap (reduce 1) (c .product64 .ensures)
+          ∙ fermat-start d (omega arith) (omega arith) (take d (c .before .args .a)) (length-take-le d (c .before .args .a) (omega arith)),
+    )
+
 product64-requires-2 : tie.Need-product64-requires-2 Inv-loop μ-loop
 product64-requires-2 c κs = search needs
+
+product64-requires-3 : tie.Need-product64-requires-3 Inv-loop μ-loop
+product64-requires-3 c κs = search needs
 
 add-i : tie.Need-add-i Inv-loop μ-loop
 add-i c = search needs
@@ -39,7 +48,7 @@ loop-less c = search needs
 loop-again : tie.Need-loop-again Inv-loop μ-loop
 loop-again c =
     let l = c .before .before .before in
-    let s = l .before in
+    let s = l .before .before in
     let d = s .args .d in
     let a = take d (s .args .a) in
     let i = l .loop .i in
@@ -48,18 +57,18 @@ loop-again c =
     let hl : length (lower d) ≡ d = length-lower d (omega arith) (omega arith) in
     let p = product 64 (lower d) (take d (l .loop .y)) a in
     let hp : length p ≡ d = length-product 64 (lower d) (take d (l .loop .y)) a (ha ∙ sym hl) ∙ hl in
-    let ez : take d (c .before .product64 .result) ≡ p = ap (take d) (c .before .product64 .ensures) ∙ held-take d p hp in
-    let en : i + 1 - 1 ≡ suc (i - 1) = omega arith in (
+    let ez : take d (c .before .product642 .result) ≡ p = ap (take d) (c .before .product642 .ensures) ∙ held-take d p hp in
+    let en : i + 1 - 2 ≡ suc (i - 2) = omega arith in (
       omega arith,
       omega arith,
-      rw (c .product642 .ensures, en)
-          (fermat-turn d (omega arith) (omega arith) a (l .loop .y) ha (i - 1) (l .loop .inv .2) (take d (c .before .product64 .result)) ez),
+      rw (c .product643 .ensures, en)
+          (fermat-turn d (omega arith) (omega arith) a (l .loop .y) ha (i - 2) (l .loop .inv .2) (take d (c .before .product642 .result)) ez),
     )
 
 returns : tie.Need-returns Inv-loop μ-loop
 returns c =
     let l = c .before in
-    let e : l .loop .i ≡ l .before .args .d = omega arith in
+    let e : l .loop .i ≡ l .before .before .args .d = omega arith in
     l .loop .inv .2 ∙ rw e
 
 pub fermat-by-spec : {M : Type 1} → statement M
@@ -68,9 +77,10 @@ fermat-by-spec =
     (tie.spec
     Inv-loop
     μ-loop
-    loop-holds
     product64-requires
+    loop-holds
     product64-requires-2
+    product64-requires-3
     add-i
     loop-less
     loop-again

@@ -26,8 +26,8 @@ newton64-requires c κs =
     let d = s .args .d in
     let h₆ : length (s .args .a) ≡ 6 = omega (arith, s .good) in
     let a = take d (s .args .a) in
-    let y = fermat d a (d - 1) in
-    let hy : length y ≡ d = length-fermat d (omega arith) (omega arith) a (length-take-le d (s .args .a) (omega arith)) (d - 1) in
+    let y = fermat d a (d - 2) in
+    let hy : length y ≡ d = length-fermat d (omega arith) (omega arith) a (length-take-le d (s .args .a) (omega arith)) (d - 2) in
     let e : c .reduce .result ≡ held d y = c .reduce .ensures ∙ c .before .fermat64 .ensures in
     (omega arith, (omega arith, omega arith), rw e (sym (held-same d (held d y) y (held-take d y hy) hy)))
 
@@ -44,8 +44,8 @@ returns c =
     let h₆ : length (s .args .a) ≡ 6 = omega (arith, s .good) in
     let a = take d (s .args .a) in
     let ha : length a ≡ d = length-take-le d (s .args .a) (omega arith) in
-    let y = fermat d a (d - 1) in
-    let hy : length y ≡ d = length-fermat d (omega arith) (omega arith) a ha (d - 1) in
+    let y = fermat d a (d - 2) in
+    let hy : length y ≡ d = length-fermat d (omega arith) (omega arith) a ha (d - 2) in
     let ey : take d (m .before .reduce .result) ≡ y =
     ap (take d) (m .before .reduce .ensures ∙ m .before .before .fermat64 .ensures) ∙ held-take d y hy in
     let x = newtons 64 d a y n in
