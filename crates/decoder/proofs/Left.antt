@@ -1,16 +1,18 @@
--- A level's rows of what the polynomial leaves of the shares: as shares under the same holders, of d words and of six (`Left`); and that the
--- ones that are not zero are those that differ from the polynomial. Assumes nothing.
+-- A level's rows of what the polynomial leaves of the shares: as shares under the same holders, of d words and of six (`Left`); that the ones
+-- that are not zero are those that differ from the polynomial; and that the array's rows are still of six words. Assumes nothing.
 use mathlib.Core.Path.{_≡_, _∙_, ap}
 use mathlib.Core.List.{List, [], map}
 use Prim.Native.Nat.{ℕ, suc, _^_, _≤_, _<_}
 use native.Mathlib.Nat.{pow-le-pow-right, le-of-eq}
+use native.Mathlib.Decide.{decLe}
 use native.Mathlib.Omega.{arith}
 use lib.ListN.{length, take, getD, replicate}
 use lib.Seq.{take-all}
 use Rattle.algebra.proofs.Shares.{all-map}
 use Rattle.galois.specs.Element.{zeroE, held}
 use Rattle.galois.proofs.Held.{held-length}
-use Rattle.polynomial.specs.Rows.{Rows, coefs}
+use Rattle.polynomial.specs.Rows.{Rows, Shaped, coefs}
+use Rattle.polynomial.proofs.Shape.{shaped-length, shaped-row}
 use Rattle.codewords.specs.Codeword.{Share, Polynomial, errorSet}
 use Rattle.codewords.specs.Residue.{residue, left}
 use Rattle.codewords.specs.WellFormed.{InWidth, Holders}
@@ -19,15 +21,15 @@ use Rattle.codewords.proofs.Residue.{residue-element}
 use Rattle.codewords.proofs.Without.{all-reword, holders-reword}
 use Rattle.level.specs.Shares.{shareAt, sharesOf, Sized, residueRows}
 use Rattle.level.proofs.Shares.{sized-at}
-use Rattle.level.proofs.Rests.{rest-row, rest-shares, rest-first, rest-length}
+use Rattle.level.proofs.Rests.{rest-row, rest-shares, rest-last, rest-length}
 use Rattle.decoder.specs.Residues.{Through, bitsOfAll}
 use Rattle.decoder.proofs.Arrays.{reword-of}
 use Rattle.decoder.proofs.Compared.{leftSix, left-set, left-bits}
+use Rattle.decoder.proofs.Rows.{shaped-rows}
 
 -- as much as a level needs of them
 pub record Left (k d t m : ℕ) (p : Polynomial) (hs : List ℕ) (ys r : Rows) : Type 0 where
-  pub long : length r ≡ 63
-  pub first : take (suc t) r ≡ replicate (suc t) (zeroE 6)
+  pub shaped : Shaped r
   pub holders-six : Holders 6 (sharesOf 6 m hs r)
   pub sized-six : Sized 6 (sharesOf 6 m hs r)
   pub set : errorSet 64 6 [] (sharesOf 6 m hs r) ≡ errorSet k d p (sharesOf d m hs ys)
@@ -38,7 +40,7 @@ pub record Left (k d t m : ℕ) (p : Polynomial) (hs : List ℕ) (ys r : Rows) :
 
 module _ (k d t m : ℕ) (dl : 2 ≤ d) (dh : d ≤ 6) (hs : List ℕ) (ys q old r : Rows) (tm : suc t ≤ m) (mh : m ≤ 63)
     (a : Holders d (sharesOf d m hs ys)) (w : InWidth k d (sharesOf d m hs ys)) (th : Through k d t (sharesOf d (suc t) hs ys) q)
-    (lo : length old ≡ 63) (fo : take (suc t) old ≡ replicate (suc t) (zeroE 6))
+    (so : Shaped old) (fo : take (suc t) old ≡ replicate (suc t) (zeroE 6))
     (er : r ≡ residueRows k d (coefs d (suc t) q) (suc t) (sharesOf d m hs ys) old) where
   abbrev P : Polynomial
   P = coefs d (suc t) q
@@ -47,7 +49,7 @@ module _ (k d t m : ℕ) (dl : 2 ≤ d) (dh : d ≤ 6) (hs : List ℕ) (ys q old
   ss = sharesOf d m hs ys
 
   mo : m ≤ length old
-  mo = omega (arith, lo)
+  mo = omega (arith, shaped-length old so)
 
   words : Sized d ss
   words = all-map (λ s x. x .0) ss w
@@ -60,15 +62,22 @@ module _ (k d t m : ℕ) (dl : 2 ≤ d) (dh : d ≤ 6) (hs : List ℕ) (ys q old
   row-at i h =
       rest-row k d P (suc t) m hs ys old tm mo r er dl dh t (th .0) words fo (th .2) i h
 
+  long-row : (i : ℕ) → i < m → length (held d (residue k d P (shareAt d hs ys i))) ≡ 6
+  long-row i h =
+      let s = shareAt d hs ys i in
+      held-length d (residue k d P s) (length-left s (sized-at d hs ys m i words h)) dh
+
   is-six : sharesOf 6 m hs r ≡ map (leftSix k d P) ss
   is-six =
       reword-of d 6 hs ys r (λ s. held d (residue k d P s)) m
       (λ i h. ap (take 6) (row-at i h) ∙ take-all 6 (held d (residue k d P (shareAt d hs ys i))) (le-of-eq (long-row i h)))
+
+  shaped-left : Shaped r
+  shaped-left = shaped-rows r (rest-length k d P (suc t) m hs ys old tm mo r er ∙ shaped-length old so) (λ i h. six i h (decLe m i))
     where
-      long-row : (i : ℕ) → i < m → length (held d (residue k d P (shareAt d hs ys i))) ≡ 6
-      long-row i h =
-          let s = shareAt d hs ys i in
-          held-length d (residue k d P s) (length-left s (sized-at d hs ys m i words h)) dh
+      six : (i : ℕ) → i < 64 → Dec (m ≤ i) → length (getD r i []) ≡ 6
+      six i h (yes l) = ap length (rest-last k d P (suc t) m hs ys old tm mo r er i l) ∙ shaped-row old i so h
+      six i h (no l) = let b : i < m = omega arith in ap length (row-at i b) ∙ long-row i b
 
   is-left : sharesOf d m hs r ≡ map (left k d P) ss
   is-left = rest-shares k d P (suc t) m hs ys old tm mo r er dl dh t (th .0) words fo (th .2)
@@ -81,8 +90,7 @@ module _ (k d t m : ℕ) (dl : 2 ≤ d) (dh : d ≤ 6) (hs : List ℕ) (ys q old
   pub rest-left : Left k d t m P hs ys r
   rest-left =
       record {
-        long = rest-length k d P (suc t) m hs ys old tm mo r er ∙ lo;
-        first = rest-first k d P (suc t) m hs ys old tm mo r er ∙ fo;
+        shaped = shaped-left;
         holders-six = rw is-six (holders-reword (λ s. held d (residue k d P s)) 6 ss holders-in-six);
         sized-six = rw is-six
             (all-reword (λ s. held d (residue k d P s)) (λ (s : Share). length (s .words) ≡ 6) ss

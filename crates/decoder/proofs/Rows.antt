@@ -1,14 +1,14 @@
--- Rows written one after another: the first of them cleared, and the first of them cut to k bits; and the rows that interpolation looks at,
--- with the words cut (`cut`). Assumes nothing.
+-- Arrays of 64 rows of six words, told row by row; rows written one after another: the first of them cleared, and the first of them cut to k
+-- bits; and the rows that interpolation looks at, with the words cut (`cut`). Assumes nothing.
 use mathlib.Core.Path.{_≡_, refl, sym, _∙_, ap, ap₂}
 use mathlib.Core.List.{List, [], _∷_, _++_, map}
 use Prim.Native.Nat.{ℕ, zero, suc, _+_, _≤_, _<_}
 use native.Mathlib.Nat.{mod-eq-of-lt, zero-add}
 use native.Mathlib.Numerals.{add-one}
 use native.Mathlib.Omega.{arith}
-use lib.ListN.{length, take, getD, set, replicate, length-map, List·getD-map, replicate-append-replicate}
+use lib.ListN.{length, take, getD, set, replicate, length-map, List·getD-map, getD-replicate, replicate-append-replicate}
 use lib.Pow.{pow-lt}
-use lib.Seq.{paste, take-suc-set, take-set-lt, take-take, map-set-same, take-paste}
+use lib.Seq.{paste, take-suc-set, take-set-lt, take-take, map-set-same, take-paste, ext-getD}
 use Rattle.words.proofs.Fill.{fill-next, fill-ahead}
 use Rattle.galois.specs.Element.{Element, reduce}
 use Rattle.galois.proofs.Narrow.{reduce-zeros}
@@ -28,6 +28,16 @@ oneRows n = oneRow ∷ replicate n zeroRow
 pub shaped-set : (p : Rows) (i : ℕ) (r : List ℕ) → Shaped p → i < 64 → length r ≡ 6 → Shaped (set p i r)
 unfolding Shaped
 shaped-set p i r h l e = map-set-same length p i r [] (e ∙ sym (shaped-row p i h l)) ∙ h
+
+-- 64 rows, each of six words
+pub shaped-rows : (p : Rows) → length p ≡ 64 → ((i : ℕ) → i < 64 → length (getD p i []) ≡ 6) → Shaped p
+unfolding Shaped
+shaped-rows p l h =
+    let n : length (map length p) ≡ 64 = length-map p length ∙ l in
+    ext-getD 0 (map length p) (replicate 64 6) n
+    (λ i b.
+    let c : i < 64 = rw n at b in
+    List·getD-map length p i [] ∙ h i c ∙ sym (getD-replicate 64 i 6 0 c))
 
 -- clearing
 pub clear-turn : (p : Rows) (i : ℕ) → i < length p → take i p ≡ replicate i zeroRow → take (i + 1) (set p i zeroRow) ≡ replicate (i + 1) zeroRow
@@ -114,11 +124,6 @@ module _ (k : ℕ) where
       sym (map-take (reduce k) (t + 2) p) ∙ ap (map (reduce k)) e ∙ ap₂ _∷_ (reduce-one h) (reduce-rows (t + 1))
 
 -- zeros where the search starts
-pub take-zeros : (n m : ℕ) → n ≤ m → take n (replicate m zeroRow) ≡ replicate n zeroRow
-take-zeros zero m h = refl
-take-zeros (suc n) zero h = absurd (omega arith)
-take-zeros (suc n) (suc m) h = ap (λ (r : Rows). zeroRow ∷ r) (take-zeros n m (omega arith))
-
 pub zero-shaped : Shaped (replicate 64 zeroRow)
 unfolding Shaped
 zero-shaped = refl

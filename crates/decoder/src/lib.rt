@@ -4,7 +4,7 @@
 // the search goes on among the others with as much less to allow.
 ghost use mathlib.Core.Path.{_≡_};
 ghost use mathlib.Core.Bool.{true};
-ghost use mathlib.Core.List.{[], _∷_};
+ghost use mathlib.Core.List.{[]};
 ghost use Prim.Native.Nat.{ℕ, suc, _+_, _*_, _≤_, _<_};
 ghost use lib.ListN.{length, take, getD, replicate};
 ghost use Rattle.polynomial.specs.Rows.{Shaped, coefs, reduceRows};
@@ -31,20 +31,16 @@ enum Found {
     Nothing,
 }
 
-// Zero and one, where interpolation starts: the first t + 2 rows of each, all that it looks at.
-fn clear_rows(t: usize, q: &mut [[u64; 6]; 64], nodal: &mut [[u64; 6]; 64])
-    requires { ⌜ (t ≤ 62) × Shaped (now q) × Shaped (now nodal) ⌝ }
-    ensures { λ _. ⌜ (take (t + 2) (now (q .exit)) ≡ replicate (t + 2) (replicate 6 0))
-        × (take (t + 2) (now (nodal .exit)) ≡ (1 ∷ replicate 5 0) ∷ replicate (t + 1) (replicate 6 0))
-        × Shaped (now (q .exit)) × Shaped (now (nodal .exit)) ⌝ }
+// The first n rows set to zero.
+fn clear_rows(n: usize, p: &mut [[u64; 6]; 64])
+    requires { ⌜ (n ≤ 64) × Shaped (now p) ⌝ }
+    ensures { λ _. ⌜ (take n (now (p .exit)) ≡ replicate n (replicate 6 0)) × Shaped (now (p .exit)) ⌝ }
 {
     let mut i = 0;
-    while i < t + 2 {
-        q[i] = [0; 6];
-        nodal[i] = [0; 6];
+    while i < n {
+        p[i] = [0; 6];
         i += 1;
     }
-    nodal[0] = [1, 0, 0, 0, 0, 0];
 }
 
 // The lowest k bits of the words of the first t + 1 rows.
@@ -75,7 +71,10 @@ fn interpolate(
     ensures { λ _. ⌜ Through k d t (sharesOf d (suc t) (now (hs .entry)) (now (ys .entry))) (now (q .exit))
         × Shaped (now (q .exit)) × Shaped (now (nodal .exit)) ⌝ }
 {
-    clear_rows(t, q, nodal);
+    // Zero and one, where interpolation starts: the first t + 2 rows of each, all that it looks at.
+    clear_rows(t + 2, q);
+    clear_rows(t + 2, nodal);
+    nodal[0] = [1, 0, 0, 0, 0, 0];
     let mut i = t + 1;
     while 0 < i {
         i -= 1;
@@ -85,7 +84,7 @@ fn interpolate(
 }
 
 // The shares of which something is left: those that differ from zero, the polynomial with no coefficients.
-fn compare(m: usize, hs: &[u64; 63], rest: &[[u64; 6]; 63]) -> Differing
+fn compare(m: usize, hs: &[u64; 63], rest: &[[u64; 6]; 64]) -> Differing
     requires { ⌜ (m ≤ 63) × Holders 6 (sharesOf 6 m (now hs) (now rest)) × Sized 6 (sharesOf 6 m (now hs) (now rest)) ⌝ }
     ensures { λ r. ⌜ (r .set ≡ errorSet 64 6 [] (sharesOf 6 m (now (hs .entry)) (now (rest .entry))))
         × (r .bits ≡ bitsOfAll (sharesOf 6 m (now (hs .entry)) (now (rest .entry)))) ⌝ }
@@ -127,8 +126,7 @@ fn drop_wrong(w: u64, m: usize, hs: &mut [u64; 63], ys: &mut [[u64; 6]; 63]) -> 
 }
 
 // One level: what the polynomial p, which goes through the first t + 1 shares, leaves of the others; if more of them than e differ from it, the
-// field decoder at the lowest bit at which any does. The first t + 1 rows of `rest` are zero and stay so: nothing is left of the shares that p
-// goes through.
+// field decoder at the lowest bit at which any does. The first t + 1 rows of `rest` are zero: nothing is left of the shares that p goes through.
 fn decode_level(
     k: u64,
     d: usize,
@@ -137,15 +135,15 @@ fn decode_level(
     m: usize,
     hs: &[u64; 63],
     ys: &[[u64; 6]; 63],
-    rest: &mut [[u64; 6]; 63],
+    rest: &mut [[u64; 6]; 64],
     e: u64,
 ) -> Found
     requires { ⌜ ((1 ≤ k) × (k ≤ 64)) × ((2 ≤ d) × (d ≤ 6)) × (t ≤ 62) × (m ≤ 63) × (suc t + 2 * e ≤ m)
         × Holders d (sharesOf d m (now hs) (now ys)) × InWidth k d (sharesOf d m (now hs) (now ys))
         × Through k d t (sharesOf d (suc t) (now hs) (now ys)) p
-        × (length (now rest) ≡ 63) × (take (suc t) (now rest) ≡ replicate (suc t) (replicate 6 0)) ⌝ }
+        × Shaped (now rest) × (take (suc t) (now rest) ≡ replicate (suc t) (replicate 6 0)) ⌝ }
     ensures found { λ r. ⌜ r ≡ levelFound k d t e (coefs d (suc t) p) (sharesOf d m (now (hs .entry)) (now (ys .entry))) ⌝ }
-    ensures rest { λ _. ⌜ (length (now (rest .exit)) ≡ 63) × (take (suc t) (now (rest .exit)) ≡ replicate (suc t) (replicate 6 0)) ⌝ }
+    ensures rest { λ _. ⌜ Shaped (now (rest .exit)) ⌝ }
 {
     level::residues(k, d, p, t, m, hs, ys, rest);
     let c = compare(m, hs, rest);
@@ -181,12 +179,13 @@ fn search(
     let mut wrong: u64 = 0;
     let mut bound = e;
     let mut count = m;
-    let mut rest = [[0u64; 6]; 63];
     let mut q = [[0u64; 6]; 64];
-    let mut nodal = [[0u64; 6]; 64];
+    // Room for interpolation, and then for what the polynomial leaves of the shares.
+    let mut room = [[0u64; 6]; 64];
     loop {
-        interpolate(k, d, t, hs, ys, &mut q, &mut nodal);
-        let got = decode_level(k, d, q, t, count, hs, ys, &mut rest, bound);
+        interpolate(k, d, t, hs, ys, &mut q, &mut room);
+        clear_rows(t + 1, &mut room);
+        let got = decode_level(k, d, q, t, count, hs, ys, &mut room, bound);
         let Found::Wrong(w, all) = got else {
             return Level::Nothing;
         };

@@ -94,7 +94,7 @@ module _ (k d : ℕ) (p : Polynomial) (n m : ℕ) (hs : List ℕ) (ys old : Rows
       length-written : length (take n old ++ rows) ≡ m
       length-written = omega (arith, length-append (take n old) rows, length-first, length-rows)
 
-      pub rest-first : take n r ≡ take n old
+      rest-first : take n r ≡ take n old
       rest-first =
           ap (take n) er
           ∙ take-append-le n (take n old ++ rows) (drop (length ss) old) (omega (arith, length-written))
@@ -105,6 +105,16 @@ module _ (k d : ℕ) (p : Polynomial) (n m : ℕ) (hs : List ℕ) (ys old : Rows
           ap length er
           ∙ length-append (take n old ++ rows) (drop (length ss) old)
           ∙ omega (arith, length-written, length-drop (length ss) old, length-from d hs ys 0 m)
+
+      pub rest-last : (i : ℕ) → m ≤ i → getD r i [] ≡ getD old i []
+      rest-last i l =
+          let e : i ≡ length (take n old ++ rows) + (i - m) = omega (arith, length-written) in
+          let f : length ss + (i - m) ≡ i = omega (arith, length-from d hs ys 0 m) in
+          ap (λ (l : Rows). getD l i []) er
+          ∙ ap (λ j. getD (take n old ++ rows ++ drop (length ss) old) j []) e
+          ∙ getD-append-add (take n old ++ rows) (drop (length ss) old) (i - m) []
+          ∙ getD-drop (length ss) old (i - m) []
+          ∙ ap (λ j. getD old j []) f
 
       later-row : (i : ℕ) → n ≤ i → i < m → getD r i [] ≡ residueRow k d p (shareAt d hs ys i)
       later-row i l h =

@@ -58,10 +58,10 @@ pub fn residues(
     m: usize,
     hs: &[u64; 63],
     ys: &[[u64; 6]; 63],
-    rest: &mut [[u64; 6]; 63],
+    rest: &mut [[u64; 6]; 64],
 )
     requires { ⌜ ((1 ≤ k) × (k ≤ 64)) × ((2 ≤ d) × (d ≤ 6)) × (t ≤ 62) × (m ≤ 63) × (suc t ≤ m)
-        × (length (now rest) ≡ 63) ⌝ }
+        × (length (now rest) ≡ 64) ⌝ }
     ensures { λ _. ⌜ now (rest .exit) ≡ residueRows k d (coefs d (suc t) p) (suc t) (sharesOf d m (now (hs .entry)) (now (ys .entry)))
         (now (rest .entry)) ⌝ }
 {
@@ -273,7 +273,7 @@ pub fn decide(
     t: usize,
     m: usize,
     hs: &[u64; 63],
-    rest: &[[u64; 6]; 63],
+    rest: &[[u64; 6]; 64],
     e: u64,
 ) -> Level
     requires { ⌜ ((2 ≤ d) × (d ≤ 6)) × (v < 64) × (t ≤ 62) × (m ≤ 63)

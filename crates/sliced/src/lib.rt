@@ -179,7 +179,7 @@ fn bits_of(y: [u64; 6], v: u64) -> [u64; 6]
 
 // Bit v of the words of ys[i] in lane i, for each i below m; the lanes from m on are zero. That the slice has six words tells the caller that
 // each row has.
-pub fn slice(v: u64, m: usize, ys: &[[u64; 6]; 63]) -> [u64; 6]
+pub fn slice(v: u64, m: usize, ys: &[[u64; 6]; 64]) -> [u64; 6]
     requires { ⌜ (v < 64) × (m ≤ 63) × (m ≤ length (now ys)) ⌝ }
     ensures { λ r. ⌜ (r ≡ sliceOf v m (now (ys .entry))) × (length r ≡ 6) ⌝ }
 {

@@ -8,6 +8,7 @@ use Prim.Native.Nat.{suc, _<_}
 use lib.Count.{ones, ones-le, trailingZeros, trailing-le}
 use Rattle.polynomial.specs.Polynomial.{Polynomial}
 use Rattle.polynomial.specs.Rows.{Rows, coefs}
+use Rattle.polynomial.proofs.Shape.{shaped-length}
 use Rattle.codewords.specs.Codeword.{Share, errors, errorSet}
 use Rattle.codewords.specs.Residue.{left}
 use Rattle.level.specs.Shares.{sharesOf}
@@ -25,7 +26,10 @@ abbrev shares : tie.Start → List Share
 shares s = sharesOf (s .args .d) (s .args .m) (s .args .hs .now) (s .args .ys .now)
 
 residues-requires : tie.Need-residues-requires
-residues-requires c κs = search needs
+residues-requires c κs =
+    let s = c .before in
+    let p = s .pre in
+    (p .0, p .1, p .2, p .3, omega (arith, p .4), shaped-length (s .args .rest .now) (p .8))
 
 -- once the rows of what is left of the shares are written
 abbrev rows : tie.After-residues → Rows
@@ -72,7 +76,7 @@ returns c =
     let o = left-of (f .before .before) in (
       found-few (a .k) (a .d) (a .t) (a .e) (poly (start f)) (shares (start f)) (f .compare .result .set) (set-is f)
           (rw (← count-is f) (c .if1 .taken)),
-      (o .long, o .first),
+      o .shaped,
     )
 
 cast-v : tie.Need-cast-v
@@ -122,13 +126,13 @@ returns-2 : tie.Need-returns-2
 returns-2 c =
     let g = c .before .before in
     let o = left-of (compared (g .before .before .before) .before .before) in
-    (rw (c .enum-told .given .1) at (found g), (o .long, o .first))
+    (rw (c .enum-told .given .1) at (found g), o .shaped)
 
 returns-3 : tie.Need-returns-3
 returns-3 c =
     let g = c .before .before .before in
     let o = left-of (compared (g .before .before .before) .before .before) in
-    (rw (c .before .got .given .1) at (found g), (o .long, o .first))
+    (rw (c .before .got .given .1) at (found g), o .shaped)
 
 pub decode-level-spec : {M : Type 1} → statement M
 decode-level-spec =

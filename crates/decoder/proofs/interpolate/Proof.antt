@@ -1,10 +1,13 @@
 -- `decoder::interpolate` meets its contract: after each turn the rows go through the shares passed. Assumes nothing.
 use borrow.Author.Needs.{needs}
 use native.Mathlib.Omega.{arith}
+use mathlib.Core.Path.{refl}
 use Prim.Native.Nat.{suc, _+_, _≤_}
+use lib.ListN.{set}
 use Rattle.algebra.proofs.Shares.{all-map}
 use Rattle.polynomial.specs.Rows.{Shaped}
 use Rattle.level.specs.Shares.{sharesOf}
+use Rattle.decoder.proofs.Rows.{oneRow, shaped-set, clear-one}
 use Rattle.decoder.proofs.Interpolated.{Passed, interpolate-start, interpolate-turn, interpolate-end}
 use Rattle.decoder.proofs.interpolate.Statement.{statement}
 use Rattle.decoder.proofs.interpolate.Tie as tie
@@ -16,21 +19,36 @@ Inv-loop k d t hs ys q₀ nodal₀ i₀ q nodal i =
 abbrev μ-loop : tie.MeasureT-loop
 μ-loop k d t hs ys q₀ nodal₀ i₀ q nodal i = i
 
+add-clear-rows : tie.Need-add-clear-rows Inv-loop μ-loop
+add-clear-rows c = search needs
+
 clear-rows-requires : tie.Need-clear-rows-requires Inv-loop μ-loop
 clear-rows-requires c κs = search needs
+
+add-clear-rows-2 : tie.Need-add-clear-rows-2 Inv-loop μ-loop
+add-clear-rows-2 c = search needs
+
+clear-rows-requires-2 : tie.Need-clear-rows-requires-2 Inv-loop μ-loop
+clear-rows-requires-2 c κs = search needs
+
+element-set-from-nodal : tie.Need-element-set-from-nodal Inv-loop μ-loop
+element-set-from-nodal c = search needs
 
 add-i : tie.Need-add-i Inv-loop μ-loop
 add-i c = search needs
 
 loop-holds : tie.Need-loop-holds Inv-loop μ-loop
 loop-holds c =
-    let a = c .before .before .before .args in
-    let e = c .clear-rows .ensures in (
+    let q = c .before .before in
+    let a = q .before .before .args in
+    let n = c .clear-rows2 .last .1 .0 in
+    let eq = q .clear-rows .ensures in
+    let en = c .clear-rows2 .ensures in (
       omega arith,
-      e .2,
-      e .3,
-      λ h dl dh. interpolate-start (a .k) (a .d) h dl dh (a .t) (a .hs .now) (a .ys .now) (c .clear-rows .last .1 .0) (c .clear-rows .last .1 .1 .0)
-          (e .0) (e .1),
+      eq .1,
+      shaped-set n 0 oneRow (en .1) (omega arith) refl,
+      λ h dl dh. interpolate-start (a .k) (a .d) h dl dh (a .t) (a .hs .now) (a .ys .now) (q .clear-rows .last .1 .0) (set n 0 oneRow) (eq .0)
+          (clear-one n (a .t) (en .0)),
     )
 
 sub-i : tie.Need-sub-i Inv-loop μ-loop
@@ -60,7 +78,7 @@ loop-less c = search needs
 loop-again : tie.Need-loop-again Inv-loop μ-loop
 loop-again c =
     let l = c .before .before .before .before .before .before in
-    let s = l .before .before .before .before in
+    let s = l .before .before .before .before .before in
     let a = s .args in
     let w = all-map (λ x w. w .0) (sharesOf (a .d) (suc (a .t)) (a .hs .now) (a .ys .now)) (s .pre .4) in
     let e = c .extend .ensures in (
@@ -77,7 +95,7 @@ reduce-rows-requires c κs = search needs
 returns : tie.Need-returns Inv-loop μ-loop
 returns c =
     let l = c .before .before .before in
-    let s = l .before .before .before .before in
+    let s = l .before .before .before .before .before in
     let a = s .args in
     let p = s .pre in
     let e = c .reduce-rows .ensures in (
@@ -93,7 +111,11 @@ interpolate-spec =
     (tie.spec
     Inv-loop
     μ-loop
+    add-clear-rows
     clear-rows-requires
+    add-clear-rows-2
+    clear-rows-requires-2
+    element-set-from-nodal
     add-i
     loop-holds
     sub-i

@@ -6,7 +6,8 @@ use mathlib.Core.Path.{_≡_, refl, _∙_, ap}
 use mathlib.Core.Bool.{Bool, true, false}
 use mathlib.Core.List.{List}
 use Prim.Native.Nat.{ℕ, suc, _+_, _*_, _≤_}
-use lib.ListN.{length, take, replicate}
+use native.Mathlib.Numerals.{add-one}
+use lib.ListN.{length, take}
 use Rattle.algebra.proofs.Shares.{all-take}
 use Rattle.polynomial.specs.Rows.{Rows, Shaped}
 use Rattle.codewords.specs.Codeword.{Share}
@@ -17,19 +18,19 @@ use Rattle.level.proofs.Shares.{length-from, holders-numbered}
 use Rattle.decoder.specs.declared.Found.{Found}
 use Rattle.decoder.specs.declared.Found.the-variants.{Wrong, Nothing}
 use Rattle.decoder.proofs.Arrays.{take-of}
-use Rattle.decoder.proofs.Rows.{zeroRow, take-zeros, zero-shaped}
+use Rattle.decoder.proofs.Rows.{zero-shaped}
 use Rattle.decoder.proofs.Sought.{Sought, Jumped, Round, start, round}
 use Rattle.decoder.proofs.search.Statement.{statement}
 use Rattle.decoder.proofs.search.Tie as tie
 
 abbrev Inv-loop : tie.InvT-loop
-Inv-loop k d t m hs₀ ys₀ e out₀ wrong₀ bound₀ count₀ rest₀ q₀ nodal₀ hs ys out wrong bound count rest q nodal =
+Inv-loop k d t m hs₀ ys₀ e out₀ wrong₀ bound₀ count₀ q₀ room₀ hs ys out wrong bound count q room =
     (count ≤ 63) × (length hs ≡ 63) × (length ys ≡ 63) × (out ≡ out₀)
     × Sought k d t e (sharesOf d m hs₀ ys₀) bound wrong (sharesOf d count hs ys)
-    × (length rest ≡ 63) × (take (suc t) rest ≡ replicate (suc t) zeroRow) × Shaped q × Shaped nodal
+    × Shaped q × Shaped room
 
 abbrev μ-loop : tie.MeasureT-loop
-μ-loop k d t m hs₀ ys₀ e out₀ wrong₀ bound₀ count₀ rest₀ q₀ nodal₀ hs ys out wrong bound count rest q nodal = bound
+μ-loop k d t m hs₀ ys₀ e out₀ wrong₀ bound₀ count₀ q₀ room₀ hs ys out wrong bound count q room = bound
 
 -- the shares that are still in, at the head of the loop; there are t + 1 of them at least
 abbrev Head : Type 0
@@ -56,8 +57,6 @@ loop-holds c =
       refl,
       start (a .d) (omega arith) (omega arith) (a .k) (a .t) (a .e) (sharesOf (a .d) (a .m) (a .hs .now) (a .ys .now)) (c .pre .5) (c .pre .6)
           (c .pre .7) (rw (length-from (a .d) (a .hs .now) (a .ys .now) 0 (a .m)) (c .pre .4)),
-      refl,
-      take-zeros (suc (a .t)) 63 (omega arith),
       zero-shaped,
       zero-shaped,
     )
@@ -71,25 +70,36 @@ interpolate-requires c κs =
     let v = l .loop .inv in
     let h : Holders (a .d) (sharesOf (a .d) n (l .loop .hs) (l .loop .ys)) = rw (← first l) (holders-take (a .d) n (inside l) (v .4 .holders)) in
     let w : InWidth (a .k) (a .d) (sharesOf (a .d) n (l .loop .hs) (l .loop .ys)) = rw (← first l) (all-take (λ x y. y) n (inside l) (v .4 .width)) in
-    (s .pre .0, s .pre .1, s .pre .2, h, w, v .7, v .8)
+    (s .pre .0, s .pre .1, s .pre .2, h, w, v .5, v .6)
+
+add-clear-rows : tie.Need-add-clear-rows Inv-loop μ-loop
+add-clear-rows c = search needs
+
+clear-rows-requires : tie.Need-clear-rows-requires Inv-loop μ-loop
+clear-rows-requires c κs = search needs
 
 decode-level-requires : tie.Need-decode-level-requires Inv-loop μ-loop
 decode-level-requires c κs =
-    let i = c .before .before .before in
+    let r = c .before .before .before in
+    let i = r .before .before in
     let l = i .before .before .before .before .before in
     let p = l .before .pre in
     let v = l .loop .inv in
-    (p .0, p .1, p .2, v .0, enough l, v .4 .holders, v .4 .width, i .interpolate .ensures .0, v .5, v .6)
+    let e = r .clear-rows .ensures in
+    (p .0, p .1, p .2, v .0, enough l, v .4 .holders, v .4 .width, i .interpolate .ensures .0, e .1, rw (add-one (l .before .args .t)) at (e .0))
 
 -- what a level gave
 abbrev Given : Type 0
 Given = tie.After-decode-level Inv-loop μ-loop
 
+abbrev interpolated : Given → tie.After-interpolate Inv-loop μ-loop
+interpolated c = c .before .before .before .before .before .before
+
 abbrev head : Given → Head
-head c = c .before .before .before .before .before .before .before .before .before
+head c = interpolated c .before .before .before .before .before
 
 abbrev rows : Given → Rows
-rows c = c .before .before .before .before .interpolate .last .1 .1 .1 .1 .1 .0
+rows c = interpolated c .interpolate .last .1 .1 .1 .1 .1 .0
 
 level : (c : Given) (got : Found) → c .decode-level .result ≡ got →
     (let l = head c in
@@ -100,7 +110,7 @@ level c got x =
     let a = l .before .args in
     let p = l .before .pre in
     round (a .d) (p .1 .0) (p .1 .1) (a .k) (a .t) (a .e) (whole l) (l .loop .bound) (l .loop .wrong) (inside l) (l .loop .inv .4) (rows c)
-    (rw (first l) (c .before .before .before .before .interpolate .ensures .0)) (p .0 .1) (c .decode-level .result) got
+    (rw (first l) (interpolated c .interpolate .ensures .0)) (p .0 .1) (c .decode-level .result) got
     (c .decode-level .ensures .0) x
 
 enum-known-got : tie.Need-enum-known-got Inv-loop μ-loop
@@ -173,17 +183,14 @@ loop-again c =
     let f = c .before .before .before in
     let g = given (f .before) in
     let l = head g in
-    let i = g .before .before .before .before in
     let e = c .drop-wrong .ensures in (
       omega (arith, e .1, l .loop .inv .0),
       e .2,
       e .3,
       l .loop .inv .3,
       rw (e .0 (l .before .args .d)) (jumped f .next),
-      g .decode-level .ensures .1 .0,
-      g .decode-level .ensures .1 .1,
-      i .interpolate .ensures .1,
-      i .interpolate .ensures .2,
+      interpolated g .interpolate .ensures .1,
+      g .decode-level .ensures .1,
     )
 
 pub search-spec : {M : Type 1} → statement M
@@ -194,6 +201,8 @@ search-spec =
     μ-loop
     loop-holds
     interpolate-requires
+    add-clear-rows
+    clear-rows-requires
     decode-level-requires
     enum-known-got
     enum-told

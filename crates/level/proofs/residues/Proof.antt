@@ -12,7 +12,7 @@ use Rattle.level.proofs.residues.Tie as tie
 
 abbrev Inv-loop : tie.InvT-loop
 Inv-loop k d t m hs ys rest₀ p i₀ rest i =
-    (suc t ≤ i) × (i ≤ m) × (length rest ≡ 63) × (rest ≡ written k d (coefs d (suc t) p) (suc t) m hs ys rest₀ i)
+    (suc t ≤ i) × (i ≤ m) × (length rest ≡ 64) × (rest ≡ written k d (coefs d (suc t) p) (suc t) m hs ys rest₀ i)
 
 abbrev μ-loop : tie.MeasureT-loop
 μ-loop k d t m hs ys rest₀ p i₀ rest i = m - i
