@@ -169,11 +169,6 @@ module _ (R S K : DiscreteRing) (P : Split (R .ring) (S .ring) (K .ring)) where
       go a true e k = omega (arith, ap bit e)
       go a false e k = omega (arith, ap bit e)
 
-  -- the same of any polynomial
-  pub misses-split : (f : List (R .ring .E)) (s : Share (R .ring)) →
-      misses R f s ≡ (misses K (reds P f) (below P s) || misses S (rest P f) (next P (reds P f) s))
-  misses-split f s = ap (λ p. misses R p s) (sym (join-split P f)) ∙ misses-join (reds P f) (rest P f) s
-
   pub count-split : (f : List (R .ring .E)) (ss : List (Share (R .ring))) →
       count (misses R f) ss ≡ count (misses K (reds P f)) (map (below P) ss) + count (misses S (rest P f)) (nexts (reds P f) ss)
   count-split f ss = ap (λ p. count (misses R p) ss) (sym (join-split P f)) ∙ count-join (reds P f) (rest P f) ss

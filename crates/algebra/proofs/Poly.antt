@@ -108,9 +108,6 @@ module _ (R : CommRing) where
   pub low-padd : (n : ℕ) (p q : List E) → Low n p → Low n q → Low n (padd p q)
   low-padd n p q h k j l = simp (coef-padd, h j l, k j l, add-zero)
 
-  pub low-scale : (n : ℕ) (c : E) (p : List E) → Low n p → Low n (scale c p)
-  low-scale n c p h j l = simp (coef-scale, h j l, mul-zero)
-
   pub low-shift : (n : ℕ) (a : E) (p : List E) → Low n p → Low (suc n) (a ∷ p)
   low-shift n a p h zero l = absurd (omega arith)
   low-shift n a p h (suc j) l = h j (omega arith)
@@ -195,10 +192,6 @@ module _ (R : CommRing) where
     where
       step : {u v w : E} → u ≡ v ⊕ w → c ⊕ u ≡ v ⊕ (c ⊕ w)
       step h = rw h (simp sums)
-
-  pub length-quo : (a : E) (p : List E) → length (quo a p) ≡ length p
-  length-quo a [] = refl
-  length-quo a (c ∷ p) = ap suc (length-quo a p)
 
   pub low-quo : (n : ℕ) (a : E) (p : List E) → Low n p → Low n (quo a p)
   low-quo n a [] h = h

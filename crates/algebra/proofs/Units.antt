@@ -104,10 +104,6 @@ module _ {R S : CommRing} (f : Hom R S) where
   pub fn-diff : (a b : R .E) → f .fn (R .add a (R .neg b)) ≡ S .add (f .fn a) (S .neg (f .fn b))
   fn-diff a b = f .fn-add a (R .neg b) ∙ rw fn-neg
 
-  -- the image of a unit is one
-  pub unit-image : (a : R .E) → Unit-of R a → Unit-of S (f .fn a)
-  unit-image a (v, h) = (f .fn v, sym (f .fn-mul v a) ∙ ap (f .fn) h ∙ f .fn-one)
-
   -- a map onto S whose kernel is the multiples of n, where n^k is zero: what is sent to a unit is one
   pub unit-of-image : (n k : ℕ) → times R (n ^ k) (R .𝟙) ≡ R .𝟘 → ((b : S .E) → (x : R .E) × (f .fn x ≡ b))
       → ((u : R .E) → f .fn u ≡ S .𝟘 → (y : R .E) × (times R n y ≡ u)) → (a : R .E) → Unit-of S (f .fn a) → Unit-of R a

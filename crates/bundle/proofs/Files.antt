@@ -15,7 +15,7 @@ use Rattle.words.proofs.Refusal.{pass, stop, first-none, first-some, first-left
 use Rattle.records.specs.Layout.{recordSize, headSize, jobLen, fileSize, orderKind, orderLen, orderSize}
 use Rattle.records.specs.Record.{framed, headingOf}
 use Rattle.bundle.specs.Bundle.{numOf, headingFault, jobFaultAt, prevNum, jobFault, fileFaultAt, fileFault, placeAt, prevHolder, filesIn}
-use Rattle.bundle.specs.Bundle.{placeFault, filesFault, bundleFault, checked, checkedFault}
+use Rattle.bundle.specs.Bundle.{placeFault, filesFault, bundleFault, checked}
 use Rattle.bundle.specs.declared.Checked.the-variants.{Files, Refused}
 use Rattle.records.proofs.Lengths.{head-low, file-low}
 use Rattle.bundle.proofs.Headings.{same-file, HeadingOk, heading-ok, job-ok}
@@ -191,12 +191,6 @@ module _ (bs : List ℕ) where
   pub bundle-files : framed bs orderKind orderLen 0 ≡ true → bundleFault bs ≡ filesFault bs orderSize
   unfolding bundleFault
   bundle-files o = pass (framed bs orderKind orderLen 0) 7 _ o
-
--- the answer of a check, and its number
-pub checked-fault : (c n : ℕ) → checkedFault (checked c n) ≡ c
-unfolding checked checkedFault
-checked-fault zero n = refl
-checked-fault (suc c) n = refl
 
 pub checked-refused : (c n : ℕ) → (c ≡ 0 → ⊥) → checked c n ≡ Refused c
 unfolding checked

@@ -118,8 +118,3 @@ jobAt bs f p = fileAt bs f + headSize (bundleHeading bs) + p * jobSize (bundleHe
 unfoldable pub checked : ℕ → ℕ → Checked
 checked zero n = Files n
 checked (suc c) n = Refused (suc c)
-
--- the paper's number for each answer
-unfoldable pub checkedFault : Checked → ℕ
-checkedFault (Files n) = 0
-checkedFault (Refused c) = c

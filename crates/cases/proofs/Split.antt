@@ -20,9 +20,6 @@ module _ (b : ℕ) (l : List ℕ) (at r : ℕ) (e : r ≡ at + indexOf b (slice 
   unfolding slice
   place = e ∙ ap (λ (t : List ℕ). at + indexOf b (drop at t)) (take-all (length l) l (le-of-eq refl))
 
-  pub from-there : at ≤ r
-  from-there = omega (arith, e)
-
   -- the part before the separator
   pub found-before : take (r - at) (drop at l) ≡ before b (drop at l)
   found-before =

@@ -1,8 +1,8 @@
 -- What the code of one level needs. A polynomial that every codeword must be decides what `codeword` is (`candidate`). Over the field, modulo
 -- two, that polynomial is the one through any t + 1 shares at which the error locator of any solution of the key equation is not zero
 -- (`located`), and without t + 1 such shares there is no codeword (`too-few`). Assumes nothing.
-use mathlib.Core.Path.{_≡_, sym, _∙_, ap, ap₂, subst}
-use mathlib.Core.Bool.{true, not, cond}
+use mathlib.Core.Path.{_≡_, sym, _∙_, ap, subst}
+use mathlib.Core.Bool.{true, cond}
 use mathlib.Core.List.{List, [], _∷_, map, List·Memᴰ, List·Memᴰ·head, List·Memᴰ·tail, Memᴰ·map}
 use mathlib.Core.Option.{none, some}
 use Prim.Native.Nat.{ℕ, suc, _+_, _*_, _^_, _≤_, _<_}
@@ -20,15 +20,14 @@ use Rattle.algebra.proofs.Shares.{all-map, nonroot}
 use Rattle.algebra.proofs.Interpolation.{interp, interp-only, length-interp}
 use Rattle.algebra.proofs.KeyEquation.{Pairs, Inv}
 use Rattle.algebra.proofs.FieldDecoder.{right, enough}
-use Rattle.galois.specs.Element.{point, same, zeroE}
 use Rattle.galois.proofs.Galois.{GR}
-use Rattle.galois.proofs.Lists.{toList, ofList, length-toList, width-to, zero-of}
+use Rattle.galois.proofs.Lists.{toList, ofList, length-toList, width-to}
 use Rattle.galois.proofs.Field.{is-field}
 use Rattle.galois.proofs.Instance.{ringOf}
 use Rattle.polynomial.proofs.OverRing.{polyOf}
-use Rattle.codewords.specs.Codeword.{Share, Polynomial, value, errors, codeword}
+use Rattle.codewords.specs.Codeword.{Share, Polynomial, errors, codeword}
 use Rattle.codewords.specs.WellFormed.{IsElement, IsPoly, Different, Holders}
-use Rattle.codewords.proofs.Value.{shareOf, Rows, rows-of, value-at, count-errors}
+use Rattle.codewords.proofs.Value.{shareOf, rows-of, count-errors}
 use Rattle.codewords.proofs.Unique.{poly-to, apart-of, none-codeword, codeword-only}
 
 -- the only candidate is the codeword, if it is within the bound
@@ -121,8 +120,3 @@ module _ (d : ℕ) (dl : 2 ≤ d) (dh : d ≤ 6) (t e : ℕ) (ss : List Share) (
                 (rw (length-map f (ofList 1 d) ∙ i .0) at (low-length (GR d 1) (polyOf 1 d f))) e
                 (le-trans (count-errors d dl dh 1 f (rows-of 1 d t f i) ss) h) (rw (length-map ss (shareOf 1 d)) m) p inv,
           ))
-
--- where a polynomial is zero, as the words say it
-pub nonroot-value : (d : ℕ) → 2 ≤ d → d ≤ 6 → (k : ℕ) (b : Polynomial) → Rows d b → (s : Share) →
-    nonroot (ringOf d k) (polyOf k d b) (shareOf k d s) ≡ not (same (value k d b (point d (s .holder))) (zeroE d))
-nonroot-value d dl dh k b r s = ap not (ap₂ same (sym (value-at d dl dh k b r s)) (sym (zero-of k d)))

@@ -45,24 +45,6 @@ find-holds t (suc n) i h =
     (λ e. (let s : pickPlace (t i) i (findFrom t n (i + 1)) ≡ findFrom t n (i + 1) = rw e in
     rw s (find-holds t n (i + 1) (omega (arith, s)))))
 
-pub find-le : (t : ℕ → Bool) (n i : ℕ) → findFrom t n i ≤ i + n
-unfolding findFrom
-find-le t zero i = omega arith
-find-le t (suc n) i =
-    bool-cases (t i) (λ e. rw e (omega arith)) (λ e. rw e (omega (arith, find-le t n (i + 1))))
-
--- a place that passes the test is at or after what is found
-pub find-least : (t : ℕ → Bool) (n i k : ℕ) → t (i + k) ≡ true → k < n → findFrom t n i ≤ i + k
-unfolding findFrom
-find-least t zero i k e h = absurd (omega arith)
-find-least t (suc n) i zero e h =
-    let z : i + 0 ≡ i = omega arith in
-    rw (ap t (sym z) ∙ e) (omega arith)
-find-least t (suc n) i (suc k) e h =
-    let z : i + suc k ≡ i + 1 + k = omega arith in
-    let r : findFrom t n (i + 1) ≤ i + 1 + k = find-least t n (i + 1) k (ap t (sym z) ∙ e) (omega arith) in
-    bool-cases (t i) (λ q. rw q (omega arith)) (λ q. rw q (omega arith))
-
 -- ---- the file of a holder
 
 -- the test of a file's holder

@@ -9,12 +9,12 @@ use native.Mathlib.Omega.{arith}
 use lib.Pow.{pow-pos, pow-add}
 use Rattle.words.proofs.Mod.{mods}
 use Rattle.algebra.specs.Ring.{CommRing, Hom, Unit-of}
-use Rattle.algebra.proofs.Ring.{one-mul, add-sub-left, fn-sub}
-use Rattle.algebra.proofs.Units.{Back, times, times-mul, times-times, times-kills, newton-times, unit-of-image}
+use Rattle.algebra.proofs.Ring.{add-sub-left, fn-sub}
+use Rattle.algebra.proofs.Units.{Back, times, times-times, times-kills, newton-times, unit-of-image}
 use Rattle.algebra.proofs.Vec.{Vec, nil, cons, vhead, vtail, vmap, map-map, map-id}
 use Rattle.algebra.proofs.Extension.{Extension, vneg, pad, scale, scale-zero, ext-times, ext-map, ext-back, map-neg}
 use Rattle.galois.specs.Element.{lower}
-use Rattle.galois.proofs.Zmod.{Word, word, word-ext, word-of, Z, remainder, times-val, char, scaled, times-back, back-remainder}
+use Rattle.galois.proofs.Zmod.{Word, word, word-ext, word-of, Z, remainder, times-val, char, scaled, times-back}
 
 -- words of k bits
 abbrev pub Zk : ℕ → CommRing
@@ -150,17 +150,6 @@ module _ (k : ℕ) where
       let t : w .val / 2 * 2 ≡ w .val = omega arith in
       word-ext (rw (doubled, t) (simp mods (w .low)))
 
-  double-lowW : (w : Word (2 ^ suc k))
-      → doubleW .back (lowW (le-suc k) .fn w) ≡ Zk (suc k) .mul (times (Zk (suc k)) 2 (Zk (suc k) .𝟙)) w
-  double-lowW w =
-      back-remainder (2 ^ k) 2 (2 ^ suc k) (pow-pos k) (pow-pos 1) (pow-pos (suc k)) (pow-suc 2 k) (pow-dvd (le-suc k)) w
-      ∙ ap (times (Zk (suc k)) 2) (sym (one-mul (Zk (suc k)) w)) ∙ sym (times-mul (Zk (suc k)) 2 (Zk (suc k) .𝟙) w)
-
-  double-lows : {n : ℕ} (u : Vec (Word (2 ^ suc k)) n)
-      → vmap (doubleW .back) (vmap (lowW (le-suc k) .fn) u) ≡ scale (Zk (suc k)) (times (Zk (suc k)) 2 (Zk (suc k) .𝟙)) u
-  double-lows nil = refl
-  double-lows (cons w u) = ap₂ cons (double-lowW w) (double-lows u)
-
   double-halves : {n : ℕ} (u : Vec (Word (2 ^ suc k)) n) → vmap (lowW (suc-le-suc zero-le) .fn) u ≡ pad (Zk 1) n nil
       → vmap (doubleW .back) (vmap halveW u) ≡ u
   double-halves nil e = refl
@@ -181,10 +170,6 @@ module _ (k : ℕ) where
   module _ {d : ℕ} (F : Vec ℕ d) where
     abbrev pub double : Back (low F (le-suc k))
     double = ext-back (lowW (le-suc k)) (rho F (suc k)) (rho F k) (low-rho F (le-suc k)) doubleW
-
-    -- 2 u depends on u modulo 2^k alone, and no two of these have the same double
-    pub double-low : (u : Galois F (suc k) .E) → double .back (low F (le-suc k) .fn u) ≡ times (Galois F (suc k)) 2 u
-    double-low u = double-lows u ∙ sym (ext-times (Zk (suc k)) (rho F (suc k)) 2 u)
 
     pub halve-double : (u : Galois F k .E) → halve (double .back u) ≡ u
     halve-double u = map-map halveW (doubleW .back) (λ w. w) halve-doubleW u ∙ map-id (λ w. w) (λ w. refl) u

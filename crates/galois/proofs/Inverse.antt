@@ -3,14 +3,14 @@
 -- Assumes nothing.
 use mathlib.Core.Path.{_≡_, refl, sym, _∙_, ap, ap₂}
 use mathlib.Core.Logic.{_≢_}
-use mathlib.Core.Bool.{true, true≢false}
+use mathlib.Core.Bool.{true≢false}
 use Prim.Native.Nat.{ℕ, zero, suc, _-_, _*_, _^_, _≤_, min}
 use native.Mathlib.Nat.{le-refl, le-trans, pow-suc}
 use native.Mathlib.Omega.{arith}
 use lib.ListN.{length, take, length-replicate}
 use lib.Seq.{length-take-le}
 use lib.Pow.{pow-pos}
-use Rattle.words.specs.Word.{subW, allInWidth}
+use Rattle.words.specs.Word.{subW}
 use Rattle.words.proofs.Mod.{mods}
 use Rattle.words.proofs.Tests.{bool-cases}
 use Rattle.algebra.specs.Ring.{Unit-of}
@@ -23,7 +23,7 @@ use Rattle.galois.proofs.Zmod.{Word, word-ext}
 use Rattle.galois.proofs.Galois.{Zk, GR, modulus, low, newton-lift, step}
 use Rattle.galois.proofs.Table.{length-lower}
 use Rattle.galois.proofs.Lists.{toList, ofList, const-suc, length-toList, length-zip, length-product, length-reduce}
-use Rattle.galois.proofs.Lists.{of-to, to-of, low-of, of-reduce, reduce-to, width-to, zero-of, of-zero, one-of, of-one}
+use Rattle.galois.proofs.Lists.{of-to, to-of, low-of, of-reduce, reduce-to, zero-of, of-zero, one-of, of-one}
 use Rattle.galois.proofs.Lists.{product-of, of-product, of-difference, reduce-product, reduce-reduce, product-same, product-alike}
 use Rattle.galois.proofs.Elements.{same-eq, eq-same, elements-all, elements-only, listed-only, first-passes, first-none, first-is, first-same}
 use Rattle.galois.proofs.Held.{held-take, held-length}
@@ -51,9 +51,6 @@ length-inverse k d a = let e = inverse-element k d a in ap length (sym (e .1)) �
 
 pub reduce-inverse : (k d : ℕ) (a : Element) → reduce k (inverse k d a) ≡ inverse k d a
 reduce-inverse k d a = let e = inverse-element k d a in ap (reduce k) (sym (e .1)) ∙ reduce-to k (e .0) ∙ e .1
-
-pub width-inverse : (k d : ℕ) (a : Element) → allInWidth k (inverse k d a) ≡ true
-width-inverse k d a = let e = inverse-element k d a in ap (allInWidth k) (sym (e .1)) ∙ width-to k (e .0)
 
 pub length-two : (d : ℕ) → length (twoE d) ≡ d
 length-two zero = refl

@@ -3,10 +3,10 @@
 -- Assumes nothing.
 use mathlib.Core.Path.{_≡_, refl, sym, _∙_, ap, ap₂}
 use mathlib.Core.Bool.{true}
-use mathlib.Core.List.{[], _∷_, map}
-use Prim.Native.Nat.{ℕ, zero, suc, _-_, _*_, _/_, _%_, _^_, _≤_, _<_}
+use mathlib.Core.List.{[], _∷_}
+use Prim.Native.Nat.{ℕ, zero, suc, _-_, _%_, _^_, _≤_, _<_}
 use native.Mathlib.Nat.{mod-mod-of-dvd, mod-lt, mod-eq-of-lt, zero-mod, suc-inj, suc-ne-zero}
-use native.Mathlib.Nat.{le-refl, le-of-eq, lt-of-lt-of-le, pow-le-pow-right, pow-suc}
+use native.Mathlib.Nat.{le-refl, le-of-eq}
 use native.Mathlib.Omega.{arith}
 use lib.Pow.{pow-pos, pow-lt}
 use lib.Dec.{ltb}
@@ -22,7 +22,7 @@ use Rattle.algebra.proofs.Vec.{Vec, nil, cons, vmap, vzip, push, last, zip-map}
 use Rattle.algebra.proofs.Extension.{vadd, vneg, scale, pad, unit, shift, act, vadd-comm, add-scaled, map-add, map-neg}
 use Rattle.galois.specs.Element.{Element, zip, sum, difference, downW, timesX, plusW, addScaled, product, zeroE, oneE, reduce}
 use Rattle.galois.proofs.Zmod.{Word, word, word-ext, word-of}
-use Rattle.galois.proofs.Galois.{Zk, Galois, rho, vec, lowW, low, pow-dvd, raise, halve, doubleW}
+use Rattle.galois.proofs.Galois.{Zk, Galois, rho, vec, lowW, low, pow-dvd}
 
 abbrev pub toList : {m n : ℕ} → Vec (Word m) n → Element
 toList nil = []
@@ -278,11 +278,6 @@ module _ {j k : ℕ} (h : j ≤ k) (d : ℕ) where
   pub of-low : (u : Vec (Word (2 ^ k)) d) → ofList j d (toList u) ≡ vmap (lowW h .fn) u
   of-low u = sym (low-of h d (toList u)) ∙ ap (vmap (lowW h .fn)) (of-to k u)
 
-  pub of-sum : (a b : Element) → length a ≡ d → length b ≡ d → ofList j d (sum k a b) ≡ vadd (Zk j) (ofList j d a) (ofList j d b)
-  of-sum a b l m =
-      ap (ofList j d) (sum-of k d a b l m) ∙ of-low (vadd (Zk k) (ofList k d a) (ofList k d b))
-      ∙ map-add (lowW h) (ofList k d a) (ofList k d b) ∙ ap₂ (vadd (Zk j)) (low-of h d a) (low-of h d b)
-
   pub of-difference : (a b : Element) → length a ≡ d → length b ≡ d
       → ofList j d (difference k a b) ≡ vadd (Zk j) (ofList j d a) (vneg (Zk j) (ofList j d b))
   of-difference a b l m =
@@ -320,24 +315,3 @@ product-alike k d l len a b a′ b′ m n p q =
   where
     of-alike : (x y : Element) → reduce k x ≡ reduce k y → ofList k d x ≡ ofList k d y
     of-alike x y e = sym (of-reduce (le-refl k) d x) ∙ ap (ofList k d) e ∙ of-reduce (le-refl k) d y
-
--- raising, halving and doubling, word by word
-pub raise-to : {j k : ℕ} → j ≤ k → {n : ℕ} (u : Vec (Word (2 ^ j)) n) → toList (raise k u) ≡ toList u
-raise-to h nil = refl
-raise-to {j} {k} h (cons w u) =
-    let l : w .val < 2 ^ j = rw (w .low) at (mod-lt (w .val) (pow-pos j)) in
-    ap₂ _∷_ (mod-eq-of-lt (lt-of-lt-of-le l (pow-le-pow-right (pow-pos 1) h))) (raise-to h u)
-
-pub halve-to : (k : ℕ) {n : ℕ} (u : Vec (Word (2 ^ suc k)) n) → toList (halve k u) ≡ map (λ w. w / 2) (toList u)
-halve-to k nil = refl
-halve-to k (cons w u) =
-    let l : w .val < 2 ^ suc k = rw (w .low) at (mod-lt (w .val) (pow-pos (suc k))) in
-    let h : w .val / 2 < 2 ^ k = omega (arith, pow-suc 2 k) in
-    ap₂ _∷_ (mod-eq-of-lt h) (halve-to k u)
-
-pub double-to : (k : ℕ) {n : ℕ} (u : Vec (Word (2 ^ k)) n) → toList (vmap (doubleW k .back) u) ≡ map (λ w. w * 2) (toList u)
-double-to k nil = refl
-double-to k (cons w u) =
-    let l : w .val < 2 ^ k = rw (w .low) at (mod-lt (w .val) (pow-pos k)) in
-    let h : w .val * 2 < 2 ^ suc k = omega (arith, pow-suc 2 k) in
-    ap₂ _∷_ (mod-eq-of-lt h) (double-to k u)

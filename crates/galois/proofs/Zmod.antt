@@ -82,6 +82,3 @@ module _ (m c M : ℕ) (pm : 0 < m) (pc : 0 < c) (pM : 0 < M) (e : M ≡ m * c) 
         back-add = λ x y. word-ext (simp (scaled, mods, add-mul));
         back-mul = λ x y. word-ext (rw mul-mod-l (simp (scaled, mods, mul-assoc)));
       }
-
-  pub back-remainder : (x : Word M) → times-back .back (word m (x .val)) ≡ times (Z M pM) c x
-  back-remainder x = word-ext (rw times-val (simp (scaled, mods, mul-comm)))

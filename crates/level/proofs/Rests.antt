@@ -12,7 +12,7 @@ use lib.ListN.{getD-replicate, List·getD-map, List·getD-append}
 use lib.Seq.{length-take-le, take-at, take-append-le, getD-take, getD-drop, getD-append-add, ext-getD, paste, paste-zero}
 use Rattle.words.specs.Word.{subW}
 use Rattle.words.proofs.Fill.{fill-more, fill-within}
-use Rattle.algebra.proofs.Shares.{all-at, all-map}
+use Rattle.algebra.proofs.Shares.{all-at}
 use Rattle.galois.specs.Element.{zeroE, difference, point, held}
 use Rattle.galois.proofs.Zip.{zip-take}
 use Rattle.galois.proofs.Lists.{length-zip}
@@ -24,10 +24,10 @@ use Rattle.polynomial.proofs.Shape.{shaped-all}
 use Rattle.polynomial.proofs.OverRing.{value-length}
 use Rattle.codewords.specs.Codeword.{Share, differs, errors}
 use Rattle.codewords.specs.Residue.{residue, left}
-use Rattle.codewords.specs.WellFormed.{IsPoly, Holders}
+use Rattle.codewords.specs.WellFormed.{IsPoly}
 use Rattle.codewords.proofs.Value.{rows-of, right-meets}
 use Rattle.codewords.proofs.Residue.{residue-element, residue-none}
-use Rattle.codewords.proofs.Without.{holders-reword, all-reword, none-differs}
+use Rattle.codewords.proofs.Without.{none-differs}
 use Rattle.level.specs.Shares.{share, shareAt, sharesOf, Sized, residueRow, residueRows}
 use Rattle.level.proofs.Shares.{default, length-from, of-at, sized-at}
 
@@ -172,13 +172,4 @@ module _ (k d : ℕ) (p : Polynomial) (n m : ℕ) (hs : List ℕ) (ys old : Rows
                 (default (map (left k d p) ss) i z (left k d p z) (rw length-left h)
                 ∙ List·getD-map (left k d p) ss i z
                 ∙ ap (left k d p) (of-at d hs ys m i z h))
-
-        -- as the field decoder asks for them
-        pub rest-holders : Holders d ss → Holders d (sharesOf d m hs r)
-        rest-holders a = rw rest-shares (holders-reword (residue k d p) d ss a)
-
-        pub rest-sized : Sized d (sharesOf d m hs r)
-        rest-sized =
-            rw rest-shares
-            (all-reword (residue k d p) (λ (s : Share). length (s .words) ≡ d) ss
-            (all-map (λ (s : Share) l. residue-element d dl dh k p (rows-of k d t p ip) s l .0) ss w))
+            -- as the field decoder asks for them

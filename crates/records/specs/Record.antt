@@ -39,12 +39,7 @@ readAt bs at =
     (Record (kindAt bs at) (bodyAt at) (bodySize (lenAt bs at)) (record { at = at + recordSize (lenAt bs at) }))
     Fault)
 
--- the paper's number for each answer of a read, and where the cursor stands after it
-unfoldable pub readFault : Read → ℕ
-readFault (Record kind start len next) = 0
-readFault End = 0
-readFault Fault = 7
-
+-- where the cursor stands after each answer of a read
 unfoldable pub readNext : Cursor → Read → Cursor
 readNext c (Record kind start len next) = next
 readNext c End = c

@@ -25,7 +25,7 @@ use Rattle.galois.proofs.Points.{length-point, reduce-point}
 use Rattle.sliced.specs.Lane.{lane, plusLanes, downLane, plusLane, shiftLanes, horner, timesLanes}
 use Rattle.sliced.specs.Lane.{spreadLane, supportOf, under, packed, sliceOf, pointsOf}
 use Rattle.sliced.proofs.Bits.{bit, zero-bit, bit-cases, xor-bit, or-bit, down-bit, plus-bit}
-use Rattle.sliced.proofs.Packed.{SixBits, zip-fits, length-packed, packed-at, packed-above}
+use Rattle.sliced.proofs.Packed.{SixBits, zip-fits, length-packed, packed-at}
 
 map-take : (f : ℕ → ℕ) (n : ℕ) (a : List ℕ) → map f (take n a) ≡ take n (map f a)
 map-take f zero a = refl
@@ -213,14 +213,6 @@ lane-slice d v m ys i h₆ hm a h =
     ∙ sym (map-take (bit v) d (take 6 y))
     ∙ ap (map (bit v)) (take-take d 6 y h₆)
 
-pub lane-slice-above : (d v m : ℕ) (ys : List (List ℕ)) (i : ℕ) → d ≤ 6 → length (sliceOf v m ys) ≡ 6 → m ≤ i
-    → lane d (sliceOf v m ys) i ≡ zeroE d
-unfolding lane sliceOf
-lane-slice-above d v m ys i h₆ a h =
-    let es = map (λ (y : List ℕ). lane 6 y v) (take m ys) in
-    let n : length es ≤ i = omega (arith, length-map (take m ys) (λ (y : List ℕ). lane 6 y v), length-take m ys) in
-    map-take (bit i) d (packed es) ∙ ap (take d) (packed-above es (lanes-six v (take m ys) (le-of-eq (sym a))) i n) ∙ zeros-take d h₆
-
 point-take : (d n i : ℕ) → d ≤ n → take d (point n i) ≡ point d i
 unfolding point
 point-take zero n i h = refl
@@ -238,10 +230,3 @@ lane-points d m hs i h₆ hm h =
     ∙ List·getD-map (point 6) (take m hs) i 0
     ∙ ap (point 6) (getD-take m hs i 0 h))
     ∙ point-take d 6 (getD hs i 0) h₆
-
-pub lane-points-above : (d m : ℕ) (hs : List ℕ) (i : ℕ) → d ≤ 6 → m ≤ i → lane d (pointsOf m hs) i ≡ zeroE d
-unfolding lane pointsOf
-lane-points-above d m hs i h₆ h =
-    let es = map (point 6) (take m hs) in
-    let n : length es ≤ i = omega (arith, length-map (take m hs) (point 6), length-take m hs) in
-    map-take (bit i) d (packed es) ∙ ap (take d) (packed-above es (points-six (take m hs)) i n) ∙ zeros-take d h₆

@@ -1,5 +1,5 @@
--- Elements packed into a slice: bit i of its words is the element at place i (`packed-at`), or zero after the last (`packed-above`); and with at
--- most n elements its words have n bits (`packed-width`), so that no bit is pushed out. Assumes nothing.
+-- Elements packed into a slice: bit i of its words is the element at place i (`packed-at`); and with at most n elements its words have n
+-- bits (`packed-width`), so that no bit is pushed out. Assumes nothing.
 use mathlib.Core.Path.{_≡_, refl, sym, ap₂, _∙_}
 use mathlib.Core.Bool.{true}
 use mathlib.Core.List.{List, [], _∷_, map}
@@ -12,10 +12,10 @@ use Rattle.words.specs.Word.{inWidth, allInWidth}
 use Rattle.words.proofs.Tests.{and-left, and-right, and-both}
 use Rattle.words.proofs.Width.{in-width-lt, lt-in-width}
 use Rattle.algebra.specs.Shares.{All}
-use Rattle.galois.specs.Element.{Element, zip, zeroE}
+use Rattle.galois.specs.Element.{Element, zip}
 use Rattle.galois.proofs.Lists.{length-zip}
 use Rattle.sliced.specs.Lane.{under, packed}
-use Rattle.sliced.proofs.Bits.{bit, zero-bit, under-low, under-high}
+use Rattle.sliced.proofs.Bits.{bit, under-low, under-high}
 
 -- six words, each 0 or 1
 abbrev pub SixBits : Element → Type 0
@@ -57,13 +57,6 @@ packed-at [] a i z h = absurd (not-suc-le-zero h)
 packed-at (e ∷ es) a zero z h = zip-low e (packed es) (a .0 .0 ∙ sym (length-packed es (a .1))) (a .0 .1)
 packed-at (e ∷ es) a (suc i) z h =
     zip-high i e (packed es) (a .0 .0 ∙ sym (length-packed es (a .1))) (a .0 .1) ∙ packed-at es (a .1) i z (le-of-suc-le-suc h)
-
-pub packed-above : (es : List Element) → All SixBits es → (i : ℕ) → length es ≤ i → map (bit i) (packed es) ≡ zeroE 6
-unfolding packed
-packed-above [] a i h = rw (zero-bit i)
-packed-above (e ∷ es) a zero h = absurd (not-suc-le-zero h)
-packed-above (e ∷ es) a (suc i) h =
-    zip-high i e (packed es) (a .0 .0 ∙ sym (length-packed es (a .1))) (a .0 .1) ∙ packed-above es (a .1) i (le-of-suc-le-suc h)
 
 zeros-width : (n j : ℕ) → allInWidth n (replicate j 0) ≡ true
 unfolding allInWidth

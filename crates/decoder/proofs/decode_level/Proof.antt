@@ -29,7 +29,7 @@ residues-requires : tie.Need-residues-requires
 residues-requires c κs =
     let s = c .before in
     let p = s .pre in
-    (p .0, p .1, p .2, p .3, omega (arith, p .4), shaped-length (s .args .rest .now) (p .8))
+    ((omega arith, omega arith), p .1, p .2, p .3, omega (arith, p .4), shaped-length (s .args .rest .now) (p .8))
 
 -- once the rows of what is left of the shares are written
 abbrev rows : tie.After-residues → Rows
