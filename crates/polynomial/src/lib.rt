@@ -25,7 +25,7 @@ fn horner(d: usize, p: &[[u64; 6]; 64], len: usize, x: u64) -> [u64; 6]
     ring::keep(d, r)
 }
 
-// The same for d 4, in a function of its own: the compiler takes the tests of the holder's bits out of a loop only where a function has few.
+// The same for d 4, in a function of its own: the compiler takes the tests of the holder's bits out of a loop only in a function that has few loops.
 fn horner_of_four(p: &[[u64; 6]; 64], len: usize, x: u64) -> [u64; 6]
     requires { ⌜ (len ≤ 64) × Shaped (now p) ⌝ }
     ensures { λ r. ⌜ r ≡ held 4 (value 64 4 (coefs 4 len (now (p .entry))) (point 4 x)) ⌝ }

@@ -58,7 +58,7 @@ fn share_by(d: usize, secret: &[u64], coefficients: &[u64], t: usize, x: u64) ->
     ring::sum(64, r, ring::load(d, secret, 0))
 }
 
-// The same for d 4, in a function of its own: the compiler takes the tests of the holder's bits out of a loop only where a function has few.
+// The same for d 4, in a function of its own: the compiler takes the tests of the holder's bits out of a loop only in a function that has few loops.
 fn share_of_four(secret: &[u64], coefficients: &[u64], t: usize, x: u64) -> [u64; 6]
     requires { ⌜ (t ≤ 63) × (length (now secret) ≡ 4) × (length (now coefficients) ≡ t * 4) ⌝ }
     ensures { λ r. ⌜ r ≡ held 4 (value 64 4 (now (secret .entry) ∷ elementsOf 4 t (now (coefficients .entry))) (point 4 x)) ⌝ }
