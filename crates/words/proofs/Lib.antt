@@ -5,3 +5,5 @@ pub mod Refusal
 pub mod InRange
 pub mod Width
 pub mod Reading
+pub mod Signs
+pub mod Faults

@@ -27,6 +27,26 @@ unfolding first
 first-some zero b n = absurd (n refl)
 first-some (suc a) b n = refl
 
+-- in groups
+pub first-assoc : (a b c : ℕ) → first (first a b) c ≡ first a (first b c)
+unfolding first
+first-assoc zero b c = refl
+first-assoc (suc a) b c = refl
+
+pub first-three : (a b c d : ℕ) → first (first a (first b c)) d ≡ first a (first b (first c d))
+first-three a b c d = first-assoc a (first b c) d ∙ ap (first a) (first-assoc b c d)
+
+-- the same fault twice
+pub first-twice : (x y : ℕ) → first x (first x y) ≡ first x y
+unfolding first
+first-twice zero y = refl
+first-twice (suc x) y = refl
+
+pub first-same : (x : ℕ) → first x x ≡ x
+unfolding first
+first-same zero = refl
+first-same (suc x) = refl
+
 -- a test with a fault c that is no 0
 pub unless-held : (b : Bool) (c : ℕ) → 0 < c → unless b c ≡ 0 → b ≡ true
 unfolding unless

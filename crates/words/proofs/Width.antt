@@ -1,27 +1,19 @@
 -- Words in width: one, two together, and those of a list. Assumes nothing.
-use mathlib.Core.Path.{_≡_, refl, subst}
-use mathlib.Core.Bool.{true, false, _&&_}
+use mathlib.Core.Path.{_≡_, ap}
+use mathlib.Core.Bool.{true, _&&_, and-assoc, and-true}
 use mathlib.Core.List.{List, [], _∷_}
-use Prim.Native.Nat.{ℕ, zero, suc, _+_, _%_, _^_, _<_}
-use native.Mathlib.Nat.{mod-lt, mod-eq-of-lt, not-suc-le-zero, le-of-suc-le-suc}
+use Prim.Native.Nat.{ℕ, zero, suc, _+_, _*_, _/_, _^_, _≤_, _<_}
+use native.Mathlib.Nat.{mod-lt, mod-add-div, div-eq-of-lt, le-trans, pow-le-pow-right, not-suc-le-zero, le-of-suc-le-suc}
 use native.Mathlib.Numerals.{add-one}
 use borrow.Author.Tests.{eq-eqb, eqb-true, ltb-true, lt-ltb}
 use native.Mathlib.Omega.{arith}
 use lib.Bits.{bitOr, or-lt, or-add-and, and-le-r, and-le-l}
 use lib.Dec.{eqb}
 use lib.Pow.{pow-pos}
-use lib.ListN.{length, drop, getD}
+use lib.ListN.{length, drop, getD, drop-of-length-le}
 use lib.Seq.{drop-cons}
 use Rattle.words.specs.Word.{inWidth, allInWidth}
-use Rattle.words.proofs.Tests.{and-left, and-right, and-both, and-yes, and-no, same-test}
-
--- a word is in width when the cut to k bits leaves it
-pub cut-test : (k w : ℕ) → eqb (w % 2 ^ k) w ≡ inWidth k w
-unfolding inWidth
-cut-test k w =
-    same-test _ _
-    (λ e. lt-ltb w (2 ^ k) (subst (λ (y : ℕ). y < 2 ^ k) (eqb-true (w % 2 ^ k) w e) (mod-lt w (pow-pos k))))
-    (λ e. eq-eqb (w % 2 ^ k) w (mod-eq-of-lt (ltb-true w (2 ^ k) e)))
+use Rattle.words.proofs.Tests.{and-left, and-right, and-both, same-test}
 
 pub in-width-lt : (k w : ℕ) → inWidth k w ≡ true → w < 2 ^ k
 unfolding inWidth
@@ -30,6 +22,16 @@ in-width-lt k w e = ltb-true w (2 ^ k) e
 pub lt-in-width : (k w : ℕ) → w < 2 ^ k → inWidth k w ≡ true
 unfolding inWidth
 lt-in-width k w h = lt-ltb w (2 ^ k) h
+
+-- a word is in width when nothing is left of it after k bits; every word of 64 bits is, where k is 64 or more
+pub shift-test : (k w : ℕ) → eqb (w / 2 ^ k) 0 ≡ inWidth k w
+shift-test k w =
+    same-test _ _
+    (λ e. lt-in-width k w (omega (arith, mod-add-div w (2 ^ k), mod-lt w (pow-pos k), ap (λ (q : ℕ). 2 ^ k * q) (eqb-true (w / 2 ^ k) 0 e))))
+    (λ e. eq-eqb (w / 2 ^ k) 0 (div-eq-of-lt (in-width-lt k w e)))
+
+pub all-bits : (k w : ℕ) → 64 ≤ k → w < 2 ^ 64 → inWidth k w ≡ true
+all-bits k w h l = lt-in-width k w (le-trans l (pow-le-pow-right (omega arith) h))
 
 -- two words together, bit by bit
 pub or-width : (k x y : ℕ) → inWidth k (bitOr x y) ≡ (inWidth k x && inWidth k y)
@@ -41,15 +43,20 @@ or-width k x y =
     (λ e. lt-in-width k (bitOr x y)
     (or-lt k x y (in-width-lt k x (and-left (inWidth k x) (inWidth k y) e)) (in-width-lt k y (and-right (inWidth k x) (inWidth k y) e))))
 
--- the word at i decides, or the rest does
-pub width-no : (k : ℕ) (s : List ℕ) (i : ℕ) → i < length s → inWidth k (getD s i 0) ≡ false → allInWidth k (drop i s) ≡ false
-unfolding allInWidth
-width-no k s i h e = rw (drop-cons s i 0 h) (and-no (inWidth k (getD s i 0)) _ e)
+-- words of a list, one after another: those seen, and the rest
+pub none-seen : (k : ℕ) (s : List ℕ) → (inWidth k 0 && allInWidth k s) ≡ allInWidth k s
+none-seen k s = rw (lt-in-width k 0 (pow-pos k))
 
-pub width-more : (k : ℕ) (s : List ℕ) (i : ℕ) → i < length s → inWidth k (getD s i 0) ≡ true
-    → allInWidth k (drop i s) ≡ allInWidth k (drop (i + 1) s)
+pub one-seen : (k seen : ℕ) (s : List ℕ) (i : ℕ) → i < length s →
+    (inWidth k (bitOr seen (getD s i 0)) && allInWidth k (drop (i + 1) s)) ≡ (inWidth k seen && allInWidth k (drop i s))
 unfolding allInWidth
-width-more k s i h e = rw (add-one, drop-cons s i 0 h) (and-yes (inWidth k (getD s i 0)) _ e refl)
+one-seen k seen s i h =
+    rw (or-width k seen (getD s i 0), add-one, drop-cons s i 0 h)
+    (and-assoc (inWidth k seen) (inWidth k (getD s i 0)) (allInWidth k (drop (suc i) s)))
+
+pub all-seen : (k seen : ℕ) (s : List ℕ) (i : ℕ) → length s ≤ i → (inWidth k seen && allInWidth k (drop i s)) ≡ inWidth k seen
+unfolding allInWidth
+all-seen k seen s i h = rw (drop-of-length-le s {i = i} h) (and-true (inWidth k seen))
 
 -- each word of a list in width is in width
 pub width-at : (k : ℕ) (s : List ℕ) (i : ℕ) → allInWidth k s ≡ true → i < length s → getD s i 0 < 2 ^ k

@@ -2,3 +2,4 @@ pub mod Refusal
 pub mod Params
 pub mod Word
 pub mod Signed
+pub mod Faults

@@ -2,6 +2,34 @@
 use Prim.Native.Nat.{ℕ, zero, suc}
 use mathlib.Core.Bool.{Bool, true, false}
 
+-- the paper's table, by the names that the code's constants have: book, length, wide word, holder, too few, no curve, frame, strangers, place
+abbrev pub PARAMETERS : ℕ
+PARAMETERS = 1
+
+abbrev pub LENGTH : ℕ
+LENGTH = 2
+
+abbrev pub WIDE-WORD : ℕ
+WIDE-WORD = 3
+
+abbrev pub HOLDER : ℕ
+HOLDER = 4
+
+abbrev pub TOO-FEW-SHARES : ℕ
+TOO-FEW-SHARES = 5
+
+abbrev pub NO-CODEWORD : ℕ
+NO-CODEWORD = 6
+
+abbrev pub MALFORMED : ℕ
+MALFORMED = 7
+
+abbrev pub MISMATCHED : ℕ
+MISMATCHED = 8
+
+abbrev pub OUT-OF-RANGE : ℕ
+OUT-OF-RANGE = 9
+
 -- the first of two faults
 unfoldable pub first : ℕ → ℕ → ℕ
 first zero b = b

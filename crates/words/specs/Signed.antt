@@ -19,6 +19,10 @@ signedOf k w =
 unfoldable pub integer : Signed → ℤ
 integer s = cond (s .negative) (negℤ (pos (s .magnitude))) (pos (s .magnitude))
 
+-- the same as a number of 64 bits in two's complement, in which C has it
+unfoldable pub twosComplement : Signed → ℕ
+twosComplement s = cond (s .negative) (2 ^ 64 - s .magnitude) (s .magnitude)
+
 -- "the sum of the jobs' signed values", and the sum of the words
 unfoldable pub sumOfMeanings : ℕ → List ℕ → ℤ
 unfolding meaning

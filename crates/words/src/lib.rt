@@ -1,9 +1,13 @@
 // Words of k bits, 1 to 64, held in a u64; the parameters of an archive; the numbers of refusals.
 ghost use mathlib.Core.Path.{_≡_};
+ghost use mathlib.Core.List.{[], _∷_};
 ghost use Prim.Native.Nat.{_+_, _*_, _%_, _^_, _≤_, _<_};
 ghost use Rattle.words.specs.Word.{addW, subW, mulW, inWidth, allInWidth};
+ghost use lib.ListN.{length};
 ghost use Rattle.words.specs.Params.{paramsOk};
-ghost use Rattle.words.specs.Signed.{signedOf};
+ghost use Rattle.words.specs.Refusal.{first, unless, kept};
+ghost use Rattle.words.specs.Faults.{paramsFault, lengthFault, widthFault, bitsOk, signedFault};
+ghost use Rattle.words.specs.Signed.{signedOf, twosComplement};
 
 // Why a call declines, by the numbers of paper 01; 0 is no refusal.
 pub const PARAMETERS: u8 = 1;
@@ -119,26 +123,27 @@ pub fn mul(k: u64, a: u64, b: u64) -> u64
     low_bits(mul64(a, b), k)
 }
 
-// Whether a word is below 2^k: its lowest k bits are all of it.
+// Whether a word is below 2^k, for every k.
 pub fn in_width(k: u64, w: u64) -> bool
-    requires { ⌜ (1 ≤ k) × (k ≤ 64) ⌝ }
     ensures { λ r. ⌜ r ≡ inWidth k w ⌝ }
 {
-    low_bits(w, k) == w
+    if 64 <= k {
+        return true;
+    }
+    w >> k == 0
 }
 
+// Whether all words of a list are: all of them together are, bit by bit.
 pub fn all_in_width(k: u64, s: &[u64]) -> bool
-    requires { ⌜ (1 ≤ k) × (k ≤ 64) ⌝ }
     ensures { λ r. ⌜ r ≡ allInWidth k (now (s .entry)) ⌝ }
 {
+    let mut seen: u64 = 0;
     let mut i = 0;
     while i < s.len() {
-        if !in_width(k, s[i]) {
-            return false;
-        }
+        seen = seen | s[i];
         i += 1;
     }
-    true
+    in_width(k, seen)
 }
 
 // The signed reading of a word: its top bit is the sign.
@@ -156,4 +161,82 @@ pub fn read_signed(k: u64, w: u64) -> Signed
         negative: true,
         magnitude: sub(k, 0, w),
     }
+}
+
+// ---- refusals: a chain of them is one expression, the first fault of tests that ask nothing of their arguments
+
+// The first of two faults.
+pub fn first(a: u8, b: u8) -> u8
+    ensures { λ r. ⌜ r ≡ first a b ⌝ }
+{
+    if a != 0 { a } else { b }
+}
+
+// A fault unless a test holds.
+pub fn unless(holds: bool, fault: u8) -> u8
+    ensures { λ r. ⌜ r ≡ unless holds fault ⌝ }
+{
+    if holds { 0 } else { fault }
+}
+
+pub fn params_fault(p: Params) -> u8
+    ensures { λ r. ⌜ r ≡ paramsFault p ⌝ }
+{
+    unless(params_ok(p), PARAMETERS)
+}
+
+// A lent list or output of n words, or bytes, where a call needs so many.
+pub fn length_fault(needed: usize, n: usize) -> u8
+    ensures { λ r. ⌜ r ≡ lengthFault needed n ⌝ }
+{
+    unless(n == needed, LENGTH)
+}
+
+pub fn width_fault(k: u64, s: &[u64]) -> u8
+    ensures { λ r. ⌜ r ≡ widthFault k (now (s .entry)) ⌝ }
+{
+    unless(all_in_width(k, s), WIDE_WORD)
+}
+
+// ---- the call that reads a word as a signed number
+
+// Whether words may have so many bits.
+fn bits_ok(k: u64) -> bool
+    ensures { λ r. ⌜ r ≡ bitsOk k ⌝ }
+{
+    if k < 1 {
+        return false;
+    }
+    k <= 64
+}
+
+// The signed reading of a word in width, in two's complement.
+fn twos_complement(k: u64, w: u64) -> u64
+    requires { ⌜ ((1 ≤ k) × (k ≤ 64)) × (w < 2 ^ k) ⌝ }
+    ensures { λ r. ⌜ r ≡ twosComplement (signedOf k w) ⌝ }
+{
+    let s = read_signed(k, w);
+    if s.negative {
+        return 0xffff_ffff_ffff_ffff - (s.magnitude - 1);
+    }
+    s.magnitude
+}
+
+// The signed reading of a word, in two's complement, into an output of one word.
+pub fn signed_into(k: u64, w: u64, out: &mut [u64]) -> u8
+    ensures { λ r. ⌜ (r ≡ signedFault k w (length (now (out .entry))))
+        × (now (out .exit) ≡ kept (signedFault k w (length (now (out .entry)))) (now (out .entry)) (twosComplement (signedOf k w) ∷ [])) ⌝ }
+{
+    let fault = first(
+        unless(bits_ok(k), PARAMETERS),
+        first(
+            length_fault(1, out.len()),
+            unless(in_width(k, w), WIDE_WORD),
+        ),
+    );
+    if fault != 0 {
+        return fault;
+    }
+    out[0] = twos_complement(k, w);
+    0
 }

@@ -1,39 +1,29 @@
--- `words::all_in_width` meets its contract: word by word, up to the first wide one. Assumes nothing.
+-- `words::all_in_width` meets its contract: the words seen, taken together, and the rest. Assumes nothing.
 use borrow.Author.Needs.{needs}
 use native.Mathlib.Omega.{arith}
-use borrow.Author.Tests.{not-true, not-false}
-use mathlib.Core.Path.{_≡_, refl, sym, _∙_}
+use mathlib.Core.Path.{_≡_, sym, _∙_}
+use mathlib.Core.Bool.{_&&_}
 use Prim.Native.Nat.{_-_, _≤_}
-use lib.ListN.{length, drop, drop-of-length-le}
-use Rattle.words.specs.Word.{allInWidth}
-use Rattle.words.proofs.Width.{width-no, width-more}
+use lib.ListN.{length, drop}
+use Rattle.words.specs.Word.{inWidth, allInWidth}
+use Rattle.words.proofs.Width.{none-seen, one-seen, all-seen}
 use Rattle.words.proofs.all_in_width.Statement.{statement}
 use Rattle.words.proofs.all_in_width.Tie as tie
 
 abbrev Inv-loop : tie.InvT-loop
-Inv-loop k s i₀ i = (i ≤ length s) × (allInWidth k s ≡ allInWidth k (drop i s))
+Inv-loop k s seen₀ i₀ seen i = (i ≤ length s) × ((inWidth k seen && allInWidth k (drop i s)) ≡ allInWidth k s)
 
 abbrev μ-loop : tie.MeasureT-loop
-μ-loop k s i₀ i = length s - i
+μ-loop k s seen₀ i₀ seen i = length s - i
 
 loop-holds : tie.Need-loop-holds Inv-loop μ-loop
-loop-holds c = (search needs, refl)
+loop-holds c = (search needs, none-seen (c .before .args .k) (c .before .args .s .now))
 
-mul-in-width : tie.Need-mul-in-width Inv-loop μ-loop
-mul-in-width c = search needs
+mul-seen : tie.Need-mul-seen Inv-loop μ-loop
+mul-seen c = search needs
 
-shared-slice-read-in-width : tie.Need-shared-slice-read-in-width Inv-loop μ-loop
-shared-slice-read-in-width c = search needs
-
-in-width-requires : tie.Need-in-width-requires Inv-loop μ-loop
-in-width-requires c κs = search needs
-
-returns : tie.Need-returns Inv-loop μ-loop
-returns c =
-    let l = c .before .before .before .before in
-    let s = l .before .before in
-    let e = sym (c .before .in-width .ensures) ∙ not-true _ (c .if1 .taken) in
-    sym (l .loop .inv .1 ∙ width-no (s .args .k) (s .args .s .now) (l .loop .i) (omega arith) e)
+shared-slice-read-seen : tie.Need-shared-slice-read-seen Inv-loop μ-loop
+shared-slice-read-seen c = search needs
 
 add-i : tie.Need-add-i Inv-loop μ-loop
 add-i c = search needs
@@ -43,17 +33,18 @@ loop-less c = search needs
 
 loop-again : tie.Need-loop-again Inv-loop μ-loop
 loop-again c =
-    let l = c .before .before .before .before in
+    let l = c .before .before in
     let s = l .before .before in
-    let e = sym (c .before .in-width .ensures) ∙ not-false _ (c .if1 .left) in
-    (omega arith, l .loop .inv .1 ∙ width-more (s .args .k) (s .args .s .now) (l .loop .i) (omega arith) e)
+    (omega arith, one-seen (s .args .k) (l .loop .seen) (s .args .s .now) (l .loop .i) (omega arith) ∙ l .loop .inv .1)
 
-returns-2 : tie.Need-returns-2 Inv-loop μ-loop
-unfolding allInWidth
-returns-2 c =
-    let l = c .before in
+in-width-requires : tie.Need-in-width-requires Inv-loop μ-loop
+in-width-requires c κs = search needs
+
+returns : tie.Need-returns Inv-loop μ-loop
+returns c =
+    let l = c .before .before in
     let s = l .before .before in
-    sym (l .loop .inv .1 ∙ rw (drop-of-length-le (s .args .s .now) {i = l .loop .i} (c .loop-test .left)))
+    c .in-width .ensures ∙ sym (all-seen (s .args .k) (l .loop .seen) (s .args .s .now) (l .loop .i) (c .before .loop-test .left)) ∙ l .loop .inv .1
 
 pub all-in-width-spec : {M : Type 1} → statement M
 all-in-width-spec =
@@ -62,11 +53,10 @@ all-in-width-spec =
     Inv-loop
     μ-loop
     loop-holds
-    mul-in-width
-    shared-slice-read-in-width
-    in-width-requires
-    returns
+    mul-seen
+    shared-slice-read-seen
     add-i
     loop-less
     loop-again
-    returns-2)
+    in-width-requires
+    returns)
