@@ -13,6 +13,7 @@ use borrow.Author.Tests.{leb-true, leb-false}
 use Rattle.algebra.specs.Ring.{CommRing, DiscreteRing, IsField}
 use Rattle.algebra.specs.Poly.{eval, coef}
 use Rattle.algebra.specs.Shares.{Share, All}
+use Rattle.algebra.specs.KeyEquation.{Pivot, none, first, second, pivot}
 use Rattle.algebra.proofs.Ring.{add-zero, zero-mul, mul-zero, unit-cancel, eqb-false, neg-mul, mul-comm, add-neg, ring, neg-zero}
 use Rattle.algebra.proofs.Poly.{
   scale,
@@ -27,18 +28,6 @@ use Rattle.algebra.proofs.Poly.{
   coef-scale,
 }
 use Rattle.algebra.proofs.Shares.{all-map, all-map₂}
-
--- Which pair is multiplied, by whether the gaps are zero, and whether `d₀ ≤ d₁`: the one with the lower leading term, so leading terms
--- never meet.
-pub data Pivot : Type 0 where
-  none first second : Pivot
-
-abbrev pub pivot : Bool → Bool → Bool → Pivot
-pivot true true le = none
-pivot true false le = second
-pivot false true le = first
-pivot false false true = first
-pivot false false false = second
 
 module _ (R : CommRing) where
   infixl 65 _⊕_

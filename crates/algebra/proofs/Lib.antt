@@ -1,10 +1,10 @@
 pub mod Extension
-pub mod FieldDecoder
 pub mod Interpolation
 pub mod KeyEquation
-pub mod Levels
+pub mod Locator
 pub mod Poly
 pub mod Ring
 pub mod Shares
+pub mod Split
 pub mod Units
 pub mod Vec

@@ -1,3 +1,4 @@
+pub mod KeyEquation
 pub mod Poly
 pub mod Ring
 pub mod Shares

@@ -1,4 +1,4 @@
--- Polynomials over a commutative ring. "A polynomial of degree at most t is t + 1 coefficients, free term first, each an element, zero or
+-- Internal: polynomials over a commutative ring. "A polynomial of degree at most t is t + 1 coefficients, free term first, each an element, zero or
 -- not": a list. Assumes nothing.
 use mathlib.Core.List.{List, [], _∷_}
 use Prim.Native.Nat.{ℕ}

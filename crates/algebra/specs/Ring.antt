@@ -1,4 +1,4 @@
--- Commutative rings, as records of their operations and laws. Assumes nothing.
+-- Internal: commutative rings, as records of their operations and laws. Assumes nothing.
 use mathlib.Core.Path.{_≡_}
 use mathlib.Core.Bool.{Bool, true}
 use mathlib.Core.Logic.{_≢_}

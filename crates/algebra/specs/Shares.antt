@@ -1,13 +1,12 @@
 -- Shares, and when one differs from a polynomial. Assumes nothing.
-use mathlib.Core.Bool.{Bool, true, false, not}
+use mathlib.Core.Bool.{Bool, cond, not}
 use mathlib.Core.List.{List, [], _∷_}
 use Prim.Native.Nat.{ℕ, _+_}
 use Rattle.algebra.specs.Ring.{CommRing, DiscreteRing, Unit-of}
 use Rattle.algebra.specs.Poly.{eval}
 
 abbrev pub bit : Bool → ℕ
-bit true = 1
-bit false = 0
+bit b = cond b 1 0
 
 module _ {S : Type 0} where
   -- how many pass a test

@@ -1,8 +1,8 @@
--- `elements k d` lists exactly the lists of d words below 2^k; what the first element that passes a test is; equality of lists as a test.
+-- `elements k d` lists exactly the lists of d words below 2^k; equality of lists as a test.
 -- Assumes nothing.
 use mathlib.Core.Path.{_≡_, refl, sym, _∙_, ap, ap₂}
 use mathlib.Core.Logic.{_⊎_, inl, inr, ⊎-elim}
-use mathlib.Core.Bool.{Bool, true, _&&_, true≢false}
+use mathlib.Core.Bool.{Bool, true, true≢false}
 use mathlib.Core.List.{List, [], _∷_, _++_, map, List·Memᴰ, List·Memᴰ·head, List·Memᴰ·tail, List·Memᴰ·not-nil, List·Memᴰ·cases-cons, List·Memᴰ·append-cases, List·Memᴰ·eq-of-singleton, Memᴰ·cast, Memᴰ·append-left, Memᴰ·append-right, Memᴰ·map, Memᴰ·of-map}
 use Prim.Native.Nat.{ℕ, zero, suc, _^_, _<_}
 use native.Mathlib.Nat.{mod-lt, mod-eq-of-lt}
@@ -12,9 +12,10 @@ use lib.Dec.{eqb}
 use lib.Pow.{pow-pos}
 use lib.ListN.{length}
 use borrow.Author.Tests.{eqb-true, eq-eqb}
-use Rattle.words.proofs.Tests.{bool-cases, and-left, and-right, and-both}
+use Rattle.words.proofs.Tests.{and-left, and-right, and-both}
 use Rattle.algebra.proofs.Vec.{Vec, nil, cons}
-use Rattle.galois.specs.Element.{Element, reduce, same, below, each, tuples, elements, firstSuch}
+use Rattle.galois.specs.Element.{Element, reduce, same, below, each, tuples, elements}
+use Rattle.galois.specs.Field.{every}
 use Rattle.galois.proofs.Zmod.{Word}
 use Rattle.galois.proofs.Lists.{toList, ofList, length-toList, to-of, reduce-to}
 
@@ -111,47 +112,11 @@ listed-only k d a h =
     let s = elements-only k d a h in
     (ap length (sym (s .1)) ∙ length-toList (s .0), ap (reduce k) (sym (s .1)) ∙ reduce-to k (s .0) ∙ s .1)
 
--- the first that passes a test
+-- all pass
 module _ {A : Type 0} (t : A → Bool) where
-  pub first-passes : (xs : List A) (o x : A) → List·Memᴰ x xs → t x ≡ true → t (firstSuch t xs o) ≡ true
-  unfolding firstSuch
-  first-passes (y ∷ xs) o x h p = go (λ m. first-passes xs o x m p) (List·Memᴰ·cases-cons h)
-    where
-      go : (List·Memᴰ x xs → t (firstSuch t xs o) ≡ true) → (x ≡ y) ⊎ List·Memᴰ x xs → t (firstSuch t (y ∷ xs) o) ≡ true
-      go r (inl e) = let q : t y ≡ true = rw e at p in rw q q
-      go r (inr m) = bool-cases (t y) (λ q. rw q q) (λ q. rw q (r m))
-
-  pub first-none : (xs : List A) (o : A) → ((x : A) → List·Memᴰ x xs → t x ≡ true → ⊥) → firstSuch t xs o ≡ o
-  unfolding firstSuch
-  first-none [] o n = refl
-  first-none (y ∷ xs) o n =
-      let r = first-none xs o (λ x m. n x (List·Memᴰ·tail m)) in
-      bool-cases (t y) (λ q. absurd (n y (List·Memᴰ·head refl) q)) (λ q. rw q r)
-
-  -- what holds of all of them and of the other holds of it
-  pub first-is : (P : A → Type 0) (xs : List A) (o : A) → ((x : A) → List·Memᴰ x xs → P x) → P o → P (firstSuch t xs o)
-  unfolding firstSuch
-  first-is P [] o h p = p
-  first-is P (y ∷ xs) o h p =
-      let r = first-is P xs o (λ x m. h x (List·Memᴰ·tail m)) p in
-      bool-cases (t y) (λ q. rw q (h y (List·Memᴰ·head refl))) (λ q. rw q r)
-
-  -- a test that says the same of each of them finds the same
-  pub first-same : (s : A → Bool) (xs : List A) (o : A) → ((x : A) → List·Memᴰ x xs → t x ≡ s x) → firstSuch t xs o ≡ firstSuch s xs o
-  unfolding firstSuch
-  first-same s [] o h = refl
-  first-same s (y ∷ xs) o h =
-      let r = first-same s xs o (λ x m. h x (List·Memᴰ·tail m)) in
-      rw (h y (List·Memᴰ·head refl), r)
-
-  -- all pass
-  unfoldable pub every : List A → Bool
-  every [] = true
-  every (x ∷ xs) = t x && every xs
-
-  pub every-at : (xs : List A) → every xs ≡ true → (x : A) → List·Memᴰ x xs → t x ≡ true
+  pub every-at : (xs : List A) → every t xs ≡ true → (x : A) → List·Memᴰ x xs → t x ≡ true
   unfolding every
   every-at [] e x h = absurd (List·Memᴰ·not-nil h)
   every-at (y ∷ xs) e x h =
-      ⊎-elim {C = t x ≡ true} (λ q. ap t q ∙ and-left (t y) (every xs) e) (λ m. every-at xs (and-right (t y) (every xs) e) x m)
+      ⊎-elim {C = t x ≡ true} (λ q. ap t q ∙ and-left (t y) (every t xs) e) (λ m. every-at xs (and-right (t y) (every t xs) e) x m)
       (List·Memᴰ·cases-cons h)

@@ -13,17 +13,13 @@ use Rattle.algebra.proofs.Ring.{sub-zero}
 use Rattle.algebra.proofs.Units.{fn-diff}
 use Rattle.algebra.proofs.Vec.{Vec, vhead}
 use Rattle.galois.specs.Inversion.{fermat}
+use Rattle.galois.specs.Field.{passes, every, fieldAt}
 use Rattle.galois.specs.Element.{Element, lower, product, zeroE, oneE, reduce, same, elements}
 use Rattle.galois.proofs.Zmod.{Word}
 use Rattle.galois.proofs.Galois.{GR, modulus, low, unit-of-low}
-use Rattle.galois.proofs.Table.{passes, passes-at, length-lower}
+use Rattle.galois.proofs.Table.{passes-at, length-lower}
 use Rattle.galois.proofs.Lists.{toList, ofList, length-toList, length-reduce, length-product, of-to, to-of, of-reduce, reduce-to, of-zero, of-one, of-product, product-same}
-use Rattle.galois.proofs.Elements.{same-eq, listed, every, every-at}
-
--- a is zero, or a^(2^d - 2) is its inverse modulo two
-unfoldable pub fieldAt : ℕ → Element → Bool
-unfolding fermat same
-fieldAt d a = same a (zeroE d) || same (product 1 (lower d) a (fermat d a (d - 2))) (oneE d)
+use Rattle.galois.proofs.Elements.{same-eq, listed, every-at}
 
 -- the rows 2 to 6, and all elements modulo two of each
 pub table-field : passes (λ d. every (fieldAt d) (elements 1 d)) 2 5 ≡ true

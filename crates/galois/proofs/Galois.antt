@@ -60,10 +60,6 @@ low-rho F {j} {k} h =
 abbrev pub low : {d : ℕ} (F : Vec ℕ d) {j k : ℕ} → j ≤ k → Hom (Galois F k) (Galois F j)
 low F {j} {k} h = ext-map (lowW h) (rho F k) (rho F j) (low-rho F h)
 
-pub low-low : {i j k : ℕ} (g : i ≤ j) (h : j ≤ k) (e : i ≤ k) {n : ℕ} (u : Vec (Word (2 ^ k)) n)
-    → vmap (lowW g .fn) (vmap (lowW h .fn) u) ≡ vmap (lowW e .fn) u
-low-low g h e u = map-map (lowW g .fn) (lowW h .fn) (lowW e .fn) (λ w. low-word g (w .val)) u
-
 -- a word as one of k bits
 abbrev pub raiseW : {m : ℕ} (k : ℕ) → Word m → Word (2 ^ k)
 raiseW k w = word (2 ^ k) (w .val)

@@ -1,23 +1,20 @@
--- The ring of the book as one of algebra's: with a test of equality and an inverse, for every k and d; for the rows of the table a field at k = 1;
--- of one element at k = 0; and the levels, each split into its lowest bits and the next. Assumes nothing.
-use mathlib.Core.Path.{_≡_, refl, sym, _∙_, ap, ap₂}
+-- The ring of the book as one of algebra's: with a test of equality and an inverse, for every k and d; and split into its lowest bits and the
+-- ring of one bit fewer. Assumes nothing.
+use mathlib.Core.Path.{_≡_, sym, _∙_, ap, ap₂}
 use mathlib.Core.Bool.{Bool, true}
+use mathlib.Core.Option.{Option·getD}
 use mathlib.Core.List.{List·Memᴰ}
-use Prim.Native.Nat.{ℕ, suc, _%_, _≤_, _<_, zero-le, suc-le-suc}
-use native.Mathlib.Nat.{le-suc, mod-lt}
-use native.Mathlib.Omega.{arith}
-use lib.Pow.{pow-pos}
+use Prim.Native.Nat.{ℕ, suc, _≤_, zero-le, suc-le-suc}
+use native.Mathlib.Nat.{le-suc}
 use lib.ListN.{length}
 use Rattle.algebra.specs.Ring.{DiscreteRing}
-use Rattle.algebra.proofs.Levels.{Split, Tower}
-use Rattle.algebra.proofs.Vec.{Vec, nil, cons}
-use Rattle.galois.specs.Element.{Element, lower, product, zeroE, oneE, same, elements, firstSuch, inverse}
-use Rattle.galois.proofs.Zmod.{Word, word-ext}
-use Rattle.galois.proofs.Galois.{GR, modulus, low, low-low, raise, low-raise, halve, double, double-inj, double-halve, low-double}
+use Rattle.algebra.proofs.Split.{Split}
+use Rattle.galois.specs.Element.{Element, lower, product, zeroE, oneE, same, elements, find, inverse}
+use Rattle.galois.proofs.Galois.{GR, modulus, low, raise, low-raise, halve, double, double-inj, double-halve, low-double}
 use Rattle.galois.proofs.Table.{length-lower}
 use Rattle.galois.proofs.Lists.{toList, ofList, length-toList, toList-inj, of-to, one-of, product-of}
-use Rattle.galois.proofs.Elements.{same-eq, same-refl, eq-same, elements-all, elements-only, first-passes, first-same}
-use Rattle.galois.proofs.Field.{is-field}
+use Rattle.galois.proofs.Elements.{same-eq, same-refl, eq-same, elements-all, elements-only}
+use Rattle.galois.proofs.Find.{find-same, found-passes}
 use Rattle.galois.proofs.Inverse.{inverse-element}
 
 -- b stands for an inverse of u
@@ -27,19 +24,19 @@ inverts d k u b = same (toList (GR d k .mul (ofList k d b) u)) (toList (GR d k .
 
 -- the first element that does, or zero
 unfoldable pub invert : (d k : ℕ) → GR d k .E → GR d k .E
-unfolding firstSuch elements inverts
-invert d k u = ofList k d (firstSuch (inverts d k u) (elements k d) (zeroE d))
+unfolding find elements inverts
+invert d k u = ofList k d (Option·getD (find (inverts d k u) (elements k d)) (zeroE d))
 
 pub invert-unit : (d k : ℕ) (u v : GR d k .E) → GR d k .mul v u ≡ GR d k .𝟙 → GR d k .mul (invert d k u) u ≡ GR d k .𝟙
 unfolding invert inverts
 invert-unit d k u v e =
     let R = GR d k in
-    let b = firstSuch (inverts d k u) (elements k d) (zeroE d) in
+    let b = Option·getD (find (inverts d k u) (elements k d)) (zeroE d) in
     let t : inverts d k u (toList v) ≡ true =
     eq-same (toList (R .mul (ofList k d (toList v)) u)) (toList (R .𝟙)) (ap toList (ap (λ x. R .mul x u) (of-to k v) ∙ e)) in
     toList-inj k (R .mul (ofList k d b) u) (R .𝟙)
     (same-eq (toList (R .mul (ofList k d b) u)) (toList (R .𝟙))
-    (first-passes (inverts d k u) (elements k d) (zeroE d) (toList v) (elements-all k d v) t))
+    (found-passes (inverts d k u) (elements k d) (zeroE d) (toList v) (elements-all k d v) t))
 
 abbrev pub ringOf : ℕ → ℕ → DiscreteRing
 ringOf d k =
@@ -51,14 +48,6 @@ ringOf d k =
       eqb-refl = λ u. same-refl (toList u);
       eqb-eq = λ u v t. toList-inj k u v (same-eq (toList u) (toList v) t);
     }
-
--- of no bits there is one element
-pub alone : {n : ℕ} (u v : Vec (Word 1) n) → u ≡ v
-alone nil nil = refl
-alone (cons a u) (cons b v) = ap₂ cons (word-ext (zero-word a ∙ sym (zero-word b))) (alone u v)
-  where
-    zero-word : (w : Word 1) → w .val ≡ 0
-    zero-word w = let l : w .val % 1 ≡ w .val = w .low in let h : w .val % 1 < 1 = mod-lt (w .val) (pow-pos 0) in omega arith
 
 -- one level: the lowest bits, and the rest as an element of one bit fewer
 abbrev pub split : (d k : ℕ) → Split (GR d (suc k)) (GR d k) (GR d 1)
@@ -85,8 +74,9 @@ module _ (d : ℕ) (dl : 2 ≤ d) (dh : d ≤ 6) where
   invert-is k h u =
       let R = GR d k in
       let e = inverse-element k d (toList u) in
-      let s : firstSuch (inverts d k u) (elements k d) (zeroE d) ≡ inverse k d (toList u) =
-      first-same (inverts d k u) (λ b. same (product k (lower d) (toList u) b) (oneE d)) (elements k d) (zeroE d) one in
+      let s : Option·getD (find (inverts d k u) (elements k d)) (zeroE d) ≡ inverse k d (toList u) =
+      ap (λ o. Option·getD o (zeroE d))
+      (find-same (inverts d k u) (λ b. same (product k (lower d) (toList u) b) (oneE d)) (elements k d) one) in
       ap (λ b. toList (ofList k d b)) (s ∙ sym (e .1)) ∙ ap toList (of-to k (e .0)) ∙ e .1
     where
       one : (b : Element) → List·Memᴰ b (elements k d) → inverts d k u b ≡ same (product k (lower d) (toList u) b) (oneE d)
@@ -98,14 +88,3 @@ module _ (d : ℕ) (dl : 2 ≤ d) (dh : d ≤ 6) where
           product-of k d (lower d) (length-lower d dl dh) d (toList u) b (length-toList u) l
           ∙ ap (λ x. toList (R .mul x (ofList k d b))) (of-to k u) ∙ ap toList (R .mul-comm u (ofList k d b)) in
           ap₂ same (sym p) (sym (one-of k h d))
-
-  abbrev pub tower : Tower
-  tower =
-      record {
-        R = ringOf d;
-        K = ringOf d 1;
-        field = is-field d dl dh;
-        bottom = alone;
-        split = split d;
-        red-low = λ k x. low-low (suc-le-suc zero-le) (le-suc (suc k)) (suc-le-suc zero-le) x;
-      }

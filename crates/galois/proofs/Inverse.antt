@@ -4,6 +4,7 @@
 use mathlib.Core.Path.{_≡_, refl, sym, _∙_, ap, ap₂}
 use mathlib.Core.Logic.{_≢_}
 use mathlib.Core.Bool.{true≢false}
+use mathlib.Core.Option.{Option·getD}
 use Prim.Native.Nat.{ℕ, zero, suc, _-_, _*_, _^_, _≤_, min}
 use native.Mathlib.Nat.{le-refl, le-trans, pow-suc}
 use native.Mathlib.Omega.{arith}
@@ -12,7 +13,7 @@ use lib.Seq.{length-take-le}
 use lib.Pow.{pow-pos}
 use Rattle.words.specs.Word.{subW}
 use Rattle.words.proofs.Mod.{mods}
-use Rattle.words.proofs.Tests.{bool-cases}
+use Rattle.words.proofs.Tests.{bool-cases, not-held}
 use Rattle.algebra.specs.Ring.{Unit-of}
 use Rattle.algebra.proofs.Ring.{mul-zero, zero-mul, inverse-only}
 use Rattle.algebra.proofs.Vec.{Vec, nil, cons}
@@ -25,7 +26,8 @@ use Rattle.galois.proofs.Table.{length-lower}
 use Rattle.galois.proofs.Lists.{toList, ofList, const-suc, length-toList, length-zip, length-product, length-reduce}
 use Rattle.galois.proofs.Lists.{of-to, to-of, low-of, of-reduce, reduce-to, zero-of, of-zero, one-of, of-one}
 use Rattle.galois.proofs.Lists.{product-of, of-product, of-difference, reduce-product, reduce-reduce, product-same, product-alike}
-use Rattle.galois.proofs.Elements.{same-eq, eq-same, elements-all, elements-only, listed-only, first-passes, first-none, first-is, first-same}
+use Rattle.galois.proofs.Elements.{same-eq, eq-same, elements-all, elements-only, listed-only}
+use Rattle.galois.proofs.Find.{none-find, find-same, found-passes, found-is}
 use Rattle.galois.proofs.Held.{held-take, held-length}
 use Rattle.galois.proofs.Narrow.{reduce-take, reduce-zeros, narrow-product}
 use Rattle.galois.proofs.Field.{length-fermat, fermat-inverse, one-not-zero, unit-of-odd}
@@ -34,17 +36,18 @@ use Rattle.galois.proofs.Field.{length-fermat, fermat-inverse, one-not-
 pub inverse-element : (k d : ℕ) (a : Element) → (u : Vec (Word (2 ^ k)) d) × (toList u ≡ inverse k d a)
 unfolding inverse
 inverse-element k d a =
-    first-is (λ b. same (product k (lower d) a b) (oneE d)) (λ e. (u : Vec (Word (2 ^ k)) d) × (toList u ≡ e)) (elements k d) (zeroE d)
+    found-is (λ e. (u : Vec (Word (2 ^ k)) d) × (toList u ≡ e)) (λ b. same (product k (lower d) a b) (oneE d)) (elements k d) (zeroE d)
     (elements-only k d) (pad (Zk k) d nil, sym (zero-of k d))
 
 -- the inverse depends on the words modulo 2^k alone
 pub inverse-same : (k d : ℕ) → 2 ≤ d → d ≤ 6 → (a b : Element) → length a ≡ d → length b ≡ d → ofList k d a ≡ ofList k d b → inverse k d a ≡ inverse k d b
 unfolding inverse
 inverse-same k d dl dh a b la lb e =
-    first-same (λ y. same (product k (lower d) a y) (oneE d)) (λ y. same (product k (lower d) b y) (oneE d)) (elements k d) (zeroE d)
+    ap (λ o. Option·getD o (zeroE d))
+    (find-same (λ y. same (product k (lower d) a y) (oneE d)) (λ y. same (product k (lower d) b y) (oneE d)) (elements k d)
     (λ y m.
     let ly : length y ≡ d = listed-only k d y m .0 in
-    ap (λ z. same z (oneE d)) (product-same k d (lower d) (length-lower d dl dh) a y b y la ly lb ly e refl))
+    ap (λ z. same z (oneE d)) (product-same k d (lower d) (length-lower d dl dh) a y b y la ly lb ly e refl)))
 
 pub length-inverse : (k d : ℕ) (a : Element) → length (inverse k d a) ≡ d
 length-inverse k d a = let e = inverse-element k d a in ap length (sym (e .1)) ∙ length-toList (e .0)
@@ -89,7 +92,7 @@ module _ (d : ℕ) (dl : 2 ≤ d) (dh : d ≤ 6) where
         let p : product k (lower d) a (toList u) ≡ oneE d =
         one-product k h a (toList u) l (length-toList u) (ap (GR d k .mul (ofList k d a)) (of-to k u) ∙ product-one k a x l m e) in
         same-eq (product k (lower d) a (inverse k d a)) (oneE d)
-        (first-passes (λ b. same (product k (lower d) a b) (oneE d)) (elements k d) (zeroE d) (toList u) (elements-all k d u)
+        (found-passes (λ b. same (product k (lower d) a b) (oneE d)) (elements k d) (zeroE d) (toList u) (elements-all k d u)
         (eq-same (product k (lower d) a (toList u)) (oneE d) p))
 
     -- and it is the only one
@@ -115,10 +118,12 @@ module _ (d : ℕ) (dl : 2 ≤ d) (dh : d ≤ 6) where
     pub inverse-even : reduce 1 a ≡ zeroE d → inverse k d a ≡ zeroE d
     unfolding inverse
     inverse-even z =
-        first-none (λ b. same (product k (lower d) a b) (oneE d)) (elements k d) (zeroE d)
-        (λ b m t.
+        ap (λ o. Option·getD o (zeroE d))
+        (none-find (λ b. same (product k (lower d) a b) (oneE d)) (elements k d)
+        (λ b m.
         let s = elements-only k d b m in
-        even-not-unit z b (ap length (sym (s .1)) ∙ length-toList (s .0)) (same-eq (product k (lower d) a b) (oneE d) t))
+        not-held (same (product k (lower d) a b) (oneE d))
+        (λ t. even-not-unit z b (ap length (sym (s .1)) ∙ length-toList (s .0)) (same-eq (product k (lower d) a b) (oneE d) t))))
 
     -- zero is no inverse
     pub zero-not-inverse : product k (lower d) a (zeroE d) ≢ oneE d

@@ -2,6 +2,7 @@ pub mod Zmod
 pub mod Galois
 pub mod Table
 pub mod Lists
+pub mod Find
 pub mod Elements
 pub mod Field
 pub mod Inverse

@@ -1,6 +1,6 @@
--- A test of the numbers in a range, and the law that gives it for each; by it, that the table's row d has d coefficients. Assumes nothing.
+-- What passes a test over a range passes it at each number; by it, that the table's row d has d coefficients. Assumes nothing.
 use mathlib.Core.Path.{_≡_, refl}
-use mathlib.Core.Bool.{Bool, true, _&&_}
+use mathlib.Core.Bool.{Bool, true}
 use Prim.Native.Nat.{ℕ, zero, suc, _+_, _≤_, _<_}
 use native.Mathlib.Decide.{ℕ-discrete}
 use native.Mathlib.Omega.{arith}
@@ -9,11 +9,7 @@ use lib.ListN.{length}
 use borrow.Author.Tests.{eqb-true}
 use Rattle.words.proofs.Tests.{and-left, and-right}
 use Rattle.galois.specs.Element.{lower}
-
--- the test passes at the c numbers from i on
-unfoldable pub passes : (ℕ → Bool) → ℕ → ℕ → Bool
-passes f i zero = true
-passes f i (suc c) = f i && passes f (suc i) c
+use Rattle.galois.specs.Field.{passes}
 
 pub passes-at : (f : ℕ → Bool) (i c : ℕ) → passes f i c ≡ true → (d : ℕ) → i ≤ d → d < i + c → f d ≡ true
 unfolding passes

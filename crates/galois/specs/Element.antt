@@ -1,7 +1,8 @@
 -- Elements and points of the Galois ring, paper 01, "Ring, points, shares", as lists of words. Assumes nothing.
 use Prim.Native.Nat.{ℕ, zero, suc, _-_, _/_, _%_, _^_}
-use mathlib.Core.Bool.{Bool, true, false, _&&_}
+use mathlib.Core.Bool.{Bool, true, false, cond, _&&_}
 use mathlib.Core.List.{List, [], _∷_, _++_, map}
+use mathlib.Core.Option.{Option, none, some, Option·getD}
 use lib.Dec.{eqb}
 use lib.ListN.{take, drop, getD, length, replicate}
 use Rattle.words.specs.Word.{addW, subW, mulW}
@@ -104,19 +105,15 @@ unfoldable pub elements : ℕ → ℕ → List Element
 unfolding below tuples
 elements k d = tuples (below (2 ^ k)) d
 
--- the first that passes a test, or another
-unfoldable pub firstSuch : {A : Type 0} → (A → Bool) → List A → A → A
-firstSuch {A} t [] o = o
-firstSuch {A} t (x ∷ xs) o = pick (t x) x (firstSuch t xs o)
-  where
-    pick : Bool → A → A → A
-    pick true x y = x
-    pick false x y = y
+-- the first in a list that passes a test
+unfoldable pub find : {A : Type 0} → (A → Bool) → List A → Option A
+find t [] = none
+find t (x ∷ xs) = cond (t x) (some x) (find t xs)
 
 -- the inverse: the element whose product with a is one. "for one that is [zero modulo 2], the inverse call gives zero"
 unfoldable pub inverse : ℕ → ℕ → Element → Element
-unfolding elements firstSuch same product lower
-inverse k d a = firstSuch (λ b. same (product k (lower d) a b) (oneE d)) (elements k d) (zeroE d)
+unfolding elements find same product lower
+inverse k d a = Option·getD (find (λ b. same (product k (lower d) a b) (oneE d)) (elements k d)) (zeroE d)
 
 -- An element in an array of six: zeros after its d words.
 abbrev pub held : ℕ → Element → List ℕ

@@ -1,2 +1,3 @@
 pub mod Element
+pub mod Field
 pub mod Inversion
