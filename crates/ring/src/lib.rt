@@ -1,4 +1,4 @@
-// Elements of the Galois ring: d words of k bits, 2 to 6, in arrays of six with zeros after the d words; and the calls on lent elements.
+// Elements of the Galois ring: d words of k bits, 2 to 6, in arrays of six with zeros after the d words.
 ghost use mathlib.Core.Path.{_≡_};
 ghost use mathlib.Core.Bool.{cond};
 ghost use mathlib.Core.List.{_∷_, _++_};
@@ -7,8 +7,6 @@ ghost use lib.Dec.{ltb};
 ghost use lib.ListN.{length, take, drop, getD};
 ghost use Rattle.galois.specs.Element.{zip, sum, difference, held, lower, downW, plusW, addScaled, product, point, reduce, inverse};
 ghost use Rattle.galois.specs.Inversion.{fermat, newtons};
-ghost use Rattle.ring.specs.Calls.{operandFault, operandsFault};
-ghost use Rattle.words.specs.Refusal.{kept};
 
 // The lower coefficients of the modulus by d, constant first. No modulus has fewer than two.
 const LOWER: [[u64; 6]; 7] = [
@@ -184,18 +182,6 @@ pub fn product(k: u64, d: usize, a: [u64; 6], b: [u64; 6]) -> [u64; 6]
     reduce(k, product64(d, a, b))
 }
 
-// The point of holder i: word j is bit j of i.
-pub fn point(i: u64) -> [u64; 6]
-    ensures { λ r. ⌜ r ≡ point 6 i ⌝ }
-{
-    let i1 = i / 2;
-    let i2 = i1 / 2;
-    let i3 = i2 / 2;
-    let i4 = i3 / 2;
-    let i5 = i4 / 2;
-    [i % 2, i1 % 2, i2 % 2, i3 % 2, i4 % 2, i5 % 2]
-}
-
 // The point of holder i times a in words of 64 bits: a sum of those X^j a for which i has bit j. The first of them is taken by a product with
 // the bit, which costs no test.
 fn sum_by_bits(d: usize, low: [u64; 6], a: [u64; 6], i: u64) -> [u64; 6]
@@ -356,76 +342,4 @@ pub fn store(d: usize, out: &mut [u64], at: usize, e: [u64; 6])
         5 => store_by(5, out, at, e),
         _ => store_by(6, out, at, e),
     }
-}
-
-// The fault of a call with two operands and an output of n words.
-fn operands_fault(p: words::Params, a: &[u64], b: &[u64], n: usize) -> u8
-    ensures { λ r. ⌜ r ≡ operandsFault p (now (a .entry)) (now (b .entry)) n ⌝ }
-{
-    if !words::params_ok(p) {
-        return words::PARAMETERS;
-    }
-    if a.len() != p.d {
-        return words::LENGTH;
-    }
-    if b.len() != p.d {
-        return words::LENGTH;
-    }
-    if n != p.d {
-        return words::LENGTH;
-    }
-    if !words::all_in_width(p.k, a) {
-        return words::WIDE_WORD;
-    }
-    if !words::all_in_width(p.k, b) {
-        return words::WIDE_WORD;
-    }
-    0
-}
-
-// The sum of two lent elements.
-pub fn add(p: words::Params, a: &[u64], b: &[u64], out: &mut [u64]) -> u8
-    ensures { λ r. ⌜ (r ≡ operandsFault p (now (a .entry)) (now (b .entry)) (length (now (out .entry))))
-        × (now (out .exit) ≡ kept (operandsFault p (now (a .entry)) (now (b .entry)) (length (now (out .entry))))
-        (now (out .entry)) (sum (p .k) (now (a .entry)) (now (b .entry)))) ⌝ }
-{
-    let fault = operands_fault(p, a, b, out.len());
-    if fault != 0 {
-        return fault;
-    }
-    let x = load(p.d, a, 0);
-    let y = load(p.d, b, 0);
-    store(p.d, out, 0, sum(p.k, x, y));
-    0
-}
-
-// The product of two lent elements.
-pub fn multiply(p: words::Params, a: &[u64], b: &[u64], out: &mut [u64]) -> u8
-    ensures { λ r. ⌜ (r ≡ operandsFault p (now (a .entry)) (now (b .entry)) (length (now (out .entry))))
-        × (now (out .exit) ≡ kept (operandsFault p (now (a .entry)) (now (b .entry)) (length (now (out .entry))))
-        (now (out .entry)) (product (p .k) (lower (p .d)) (now (a .entry)) (now (b .entry)))) ⌝ }
-{
-    let fault = operands_fault(p, a, b, out.len());
-    if fault != 0 {
-        return fault;
-    }
-    let x = load(p.d, a, 0);
-    let y = load(p.d, b, 0);
-    store(p.d, out, 0, product(p.k, p.d, x, y));
-    0
-}
-
-// The inverse of a lent element, or zero where it has none.
-pub fn invert(p: words::Params, a: &[u64], out: &mut [u64]) -> u8
-    ensures { λ r. ⌜ (r ≡ operandFault p (now (a .entry)) (length (now (out .entry))))
-        × (now (out .exit) ≡ kept (operandFault p (now (a .entry)) (length (now (out .entry))))
-        (now (out .entry)) (inverse (p .k) (p .d) (now (a .entry)))) ⌝ }
-{
-    let fault = operands_fault(p, a, a, out.len());
-    if fault != 0 {
-        return fault;
-    }
-    let x = load(p.d, a, 0);
-    store(p.d, out, 0, inverse_of(p.k, p.d, x));
-    0
 }

@@ -16,7 +16,8 @@ use Rattle.words.proofs.Tests.{and-left, and-right, and-both}
 use Rattle.words.proofs.Width.{in-width-lt, lt-in-width, width-at}
 use Rattle.algebra.specs.Shares.{All}
 use Rattle.galois.specs.Element.{Element, zip, sum, product, lower, point, same, zeroE, held, downW, plusW, timesX}
-use Rattle.galois.proofs.Table.{passes, passes-at, length-lower}
+use Rattle.galois.specs.Field.{passes}
+use Rattle.galois.proofs.Table.{passes-at, length-lower}
 use Rattle.galois.proofs.Zip.{zip-take}
 use Rattle.galois.proofs.Held.{to-six, held-same, held-take, held-length}
 use Rattle.galois.proofs.Horner.{shift-take, turn-length}

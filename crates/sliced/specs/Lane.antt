@@ -1,4 +1,4 @@
--- Elements of the field of 2^d elements, the ring of paper 01 at k = 1, 64 at a time: a slice is six words, and its lane i is the element
+-- Internal: elements of the field of 2^d elements, the ring of paper 01 at k = 1, 64 at a time: a slice is six words, and its lane i is the element
 -- whose word j is bit i of the slice's word j. Assumes nothing.
 use Prim.Native.Nat.{ℕ, zero, suc, _+_, _-_, _*_, _/_, _%_, _^_}
 use mathlib.Core.List.{List, [], _∷_, map}

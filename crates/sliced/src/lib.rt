@@ -6,7 +6,7 @@ ghost use mathlib.Core.List.{_∷_};
 ghost use Prim.Native.Nat.{_-_, _*_, _/_, _%_, _^_, _≤_, _<_};
 ghost use lib.ListN.{length, getD};
 ghost use Rattle.words.specs.Word.{allInWidth};
-ghost use Rattle.galois.specs.Element.{zip, held, lower};
+ghost use Rattle.galois.specs.Element.{zip, held, lower, point};
 ghost use Rattle.sliced.specs.Lane.{lane, plusLanes, downLane, plusLane, timesLanes, spreadLane, supportOf, under, sliceOf, pointsOf};
 
 // Every lane.
@@ -193,6 +193,18 @@ pub fn slice(v: u64, m: usize, ys: &[[u64; 6]; 64]) -> [u64; 6]
     r
 }
 
+// The point of holder i: word j is bit j of i.
+fn point(i: u64) -> [u64; 6]
+    ensures { λ r. ⌜ r ≡ point 6 i ⌝ }
+{
+    let i1 = i / 2;
+    let i2 = i1 / 2;
+    let i3 = i2 / 2;
+    let i4 = i3 / 2;
+    let i5 = i4 / 2;
+    [i % 2, i1 % 2, i2 % 2, i3 % 2, i4 % 2, i5 % 2]
+}
+
 // The point of holder hs[i] in lane i, for each i below m; the lanes from m on are zero.
 pub fn points(m: usize, hs: &[u64; 63]) -> [u64; 6]
     requires { ⌜ (m ≤ 63) × (m ≤ length (now hs)) ⌝ }
@@ -202,7 +214,7 @@ pub fn points(m: usize, hs: &[u64; 63]) -> [u64; 6]
     let mut i = m;
     while 0 < i {
         i -= 1;
-        let s = prepend(ring::point(hs[i]), r);
+        let s = prepend(point(hs[i]), r);
         r = s;
     }
     r

@@ -20,9 +20,6 @@ Inv-loop d a y₀ i₀ y i = (2 ≤ i) × (i ≤ d) × (reduce 1 y ≡ held d (f
 abbrev μ-loop : tie.MeasureT-loop
 μ-loop d a y₀ i₀ y i = d - i
 
-product64-requires : tie.Need-product64-requires Inv-loop μ-loop
-product64-requires c κs = search needs
-
 loop-holds : tie.Need-loop-holds Inv-loop μ-loop
 loop-holds c =
     let d = c .before .args .d in
@@ -32,18 +29,6 @@ loop-holds c =
       ap (reduce 1) (c .product64 .ensures)
           ∙ fermat-start d (omega arith) (omega arith) (take d (c .before .args .a)) (length-take-le d (c .before .args .a) (omega arith)),
     )
-
-product64-requires-2 : tie.Need-product64-requires-2 Inv-loop μ-loop
-product64-requires-2 c κs = search needs
-
-product64-requires-3 : tie.Need-product64-requires-3 Inv-loop μ-loop
-product64-requires-3 c κs = search needs
-
-add-i : tie.Need-add-i Inv-loop μ-loop
-add-i c = search needs
-
-loop-less : tie.Need-loop-less Inv-loop μ-loop
-loop-less c = search needs
 
 loop-again : tie.Need-loop-again Inv-loop μ-loop
 loop-again c =
@@ -77,11 +62,11 @@ fermat-by-spec =
     (tie.spec
     Inv-loop
     μ-loop
-    product64-requires
+    (λ c κs. search needs)
     loop-holds
-    product64-requires-2
-    product64-requires-3
-    add-i
-    loop-less
+    (λ c κs. search needs)
+    (λ c κs. search needs)
+    (λ c. search needs)
+    (λ c. search needs)
     loop-again
     returns)

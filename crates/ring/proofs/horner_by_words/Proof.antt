@@ -26,24 +26,6 @@ loop-holds c =
     let ha : length (take d (c .args .t3)) ≡ d = length-take-le d (c .args .t3) (omega arith) in
     (search needs, refl, no-turn 64 d (take (c .args .d) (c .args .t3)) (take d (c .args .b)) (omega arith) (omega arith) ha)
 
-sub-i : tie.Need-sub-i Inv-loop μ-loop
-sub-i c = search needs
-
-shift-requires : tie.Need-shift-requires Inv-loop μ-loop
-shift-requires c κs = search needs
-
-mul-add-scaled : tie.Need-mul-add-scaled Inv-loop μ-loop
-mul-add-scaled c = search needs
-
-array-read-add-scaled : tie.Need-array-read-add-scaled Inv-loop μ-loop
-array-read-add-scaled c = search needs
-
-add-scaled-requires : tie.Need-add-scaled-requires Inv-loop μ-loop
-add-scaled-requires c κs = search needs
-
-loop-less : tie.Need-loop-less Inv-loop μ-loop
-loop-less c = search needs
-
 loop-again : tie.Need-loop-again Inv-loop μ-loop
 loop-again c =
     let l = c .before .before .before in
@@ -65,9 +47,6 @@ loop-again c =
           (turn 64 d r a b i c₁ (omega arith) (omega arith) (omega arith) (omega arith) (omega arith)
           (sym (getD-take d (s .args .t3) (i - 1) 0 (omega arith))) (l .loop .inv .2)),
     )
-
-keep-requires : tie.Need-keep-requires Inv-loop μ-loop
-keep-requires c κs = search needs
 
 returns : tie.Need-returns Inv-loop μ-loop
 returns c =
@@ -91,12 +70,12 @@ horner-by-words-spec =
     Inv-loop
     μ-loop
     loop-holds
-    sub-i
-    shift-requires
-    mul-add-scaled
-    array-read-add-scaled
-    add-scaled-requires
-    loop-less
+    (λ c. search needs)
+    (λ c κs. search needs)
+    (λ c. search needs)
+    (λ c. search needs)
+    (λ c κs. search needs)
+    (λ c. search needs)
     loop-again
-    keep-requires
+    (λ c κs. search needs)
     returns)

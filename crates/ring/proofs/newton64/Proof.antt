@@ -12,53 +12,23 @@ asked : (s : tie.Start) (n : ℕ) → s .args .d ≡ n → 2 ≤ n → n ≤ 6
     → (s .args .k ≤ 64) × ((2 ≤ n) × (n ≤ 6)) × (s .args .start ≡ held n (s .args .start))
 asked s n e l h = (s .pre .0, (l, h), rw e at (s .pre .2))
 
-newton-by-requires : tie.Need-newton-by-requires
-newton-by-requires c κs = asked (c .before) 2 (c .match .keys1) (omega arith) (omega arith)
-
-newton-by-requires-2 : tie.Need-newton-by-requires-2
-newton-by-requires-2 c κs = asked (c .before) 3 (c .match .keys2) (omega arith) (omega arith)
-
-newton-by-requires-3 : tie.Need-newton-by-requires-3
-newton-by-requires-3 c κs = asked (c .before) 4 (c .match .keys3) (omega arith) (omega arith)
-
-newton-by-requires-4 : tie.Need-newton-by-requires-4
-newton-by-requires-4 c κs = asked (c .before) 5 (c .match .keys4) (omega arith) (omega arith)
-
-newton-by-requires-5 : tie.Need-newton-by-requires-5
-newton-by-requires-5 c κs =
-    let r = c .match .rest in
-    let d = c .before .args .d in
-    asked (c .before) 6 (six d (omega arith) (omega arith) (r .0 .0 .0 .1) (r .0 .0 .1) (r .0 .1) (r .1)) (omega arith) (omega arith)
-
-returns : tie.Need-returns
-returns c = rw (c .before .match .keys1) (c .newton-by .ensures)
-
-returns-2 : tie.Need-returns-2
-returns-2 c = rw (c .before .match .keys2) (c .newton-by2 .ensures)
-
-returns-3 : tie.Need-returns-3
-returns-3 c = rw (c .before .match .keys3) (c .newton-by3 .ensures)
-
-returns-4 : tie.Need-returns-4
-returns-4 c = rw (c .before .match .keys4) (c .newton-by4 .ensures)
-
-returns-5 : tie.Need-returns-5
-returns-5 c =
-    let r = c .before .match .rest in
-    let d = c .before .before .args .d in
-    rw (six d (omega arith) (omega arith) (r .0 .0 .0 .1) (r .0 .0 .1) (r .0 .1) (r .1)) (c .newton-by5 .ensures)
-
 pub newton64-spec : {M : Type 1} → statement M
 newton64-spec =
     tie.close
     (tie.spec
-    newton-by-requires
-    newton-by-requires-2
-    newton-by-requires-3
-    newton-by-requires-4
-    newton-by-requires-5
-    returns
-    returns-2
-    returns-3
-    returns-4
-    returns-5)
+    (λ c κs. asked (c .before) 2 (c .match .keys1) (omega arith) (omega arith))
+    (λ c κs. asked (c .before) 3 (c .match .keys2) (omega arith) (omega arith))
+    (λ c κs. asked (c .before) 4 (c .match .keys3) (omega arith) (omega arith))
+    (λ c κs. asked (c .before) 5 (c .match .keys4) (omega arith) (omega arith))
+    (λ c κs.
+    let r = c .match .rest in
+    let d = c .before .args .d in
+    asked (c .before) 6 (six d (omega arith) (omega arith) (r .0 .0 .0 .1) (r .0 .0 .1) (r .0 .1) (r .1)) (omega arith) (omega arith))
+    (λ c. rw (c .before .match .keys1) (c .newton-by .ensures))
+    (λ c. rw (c .before .match .keys2) (c .newton-by2 .ensures))
+    (λ c. rw (c .before .match .keys3) (c .newton-by3 .ensures))
+    (λ c. rw (c .before .match .keys4) (c .newton-by4 .ensures))
+    (λ c.
+    let r = c .before .match .rest in
+    let d = c .before .before .args .d in
+    rw (six d (omega arith) (omega arith) (r .0 .0 .0 .1) (r .0 .0 .1) (r .0 .1) (r .1)) (c .newton-by5 .ensures)))

@@ -35,21 +35,6 @@ loop-holds c =
     let h₆ : length start ≡ 6 = omega (arith, c .good) in
     (search needs, (0, (refl, c .pre .2 ∙ held-same d start (take d start) refl (length-take-le d start (omega arith)))))
 
-product64-requires : tie.Need-product64-requires Inv-loop μ-loop
-product64-requires c κs = search needs
-
-difference-requires : tie.Need-difference-requires Inv-loop μ-loop
-difference-requires c κs = search needs
-
-product64-requires-2 : tie.Need-product64-requires-2 Inv-loop μ-loop
-product64-requires-2 c κs = search needs
-
-add-w : tie.Need-add-w Inv-loop μ-loop
-add-w c = search needs
-
-loop-less : tie.Need-loop-less Inv-loop μ-loop
-loop-less c = search needs
-
 loop-again : tie.Need-loop-again Inv-loop μ-loop
 unfolding newtons newton
 loop-again c =
@@ -95,10 +80,10 @@ newton-by-spec =
     Inv-loop
     μ-loop
     loop-holds
-    product64-requires
-    difference-requires
-    product64-requires-2
-    add-w
-    loop-less
+    (λ c κs. search needs)
+    (λ c κs. search needs)
+    (λ c κs. search needs)
+    (λ c. search needs)
+    (λ c. search needs)
     loop-again
     returns)

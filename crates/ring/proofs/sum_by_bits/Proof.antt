@@ -28,9 +28,6 @@ Inv-loop d low i r₀ p₀ j₀ r p j =
 abbrev μ-loop : tie.MeasureT-loop
 μ-loop d low i r₀ p₀ j₀ r p j = d - j
 
-add-scaled-requires : tie.Need-add-scaled-requires Inv-loop μ-loop
-add-scaled-requires c κs = search needs
-
 loop-holds : tie.Need-loop-holds Inv-loop μ-loop
 unfolding powerX
 loop-holds c =
@@ -46,21 +43,6 @@ loop-holds c =
       refl,
       rw (c .add-scaled .ensures) (rise-first 64 d (point d i) a (i % 2) (omega arith) (omega arith) (omega arith) (omega arith) e),
     )
-
-shift-requires : tie.Need-shift-requires Inv-loop μ-loop
-shift-requires c κs = search needs
-
-shr-add-picked : tie.Need-shr-add-picked Inv-loop μ-loop
-shr-add-picked c = search needs
-
-add-picked-requires : tie.Need-add-picked-requires Inv-loop μ-loop
-add-picked-requires c κs = search needs
-
-add-j : tie.Need-add-j Inv-loop μ-loop
-add-j c = search needs
-
-loop-less : tie.Need-loop-less Inv-loop μ-loop
-loop-less c = search needs
 
 loop-again : tie.Need-loop-again Inv-loop μ-loop
 loop-again c =
@@ -88,9 +70,6 @@ loop-again c =
           (sym (point-at d i j (omega arith))) x (l .loop .inv .3)),
     )
 
-keep-requires : tie.Need-keep-requires Inv-loop μ-loop
-keep-requires c κs = search needs
-
 returns : tie.Need-returns Inv-loop μ-loop
 returns c =
     let l = c .before .before in
@@ -113,13 +92,13 @@ sum-by-bits-spec =
     (tie.spec
     Inv-loop
     μ-loop
-    add-scaled-requires
+    (λ c κs. search needs)
     loop-holds
-    shift-requires
-    shr-add-picked
-    add-picked-requires
-    add-j
-    loop-less
+    (λ c κs. search needs)
+    (λ c. search needs)
+    (λ c κs. search needs)
+    (λ c. search needs)
+    (λ c. search needs)
     loop-again
-    keep-requires
+    (λ c κs. search needs)
     returns)

@@ -21,18 +21,6 @@ abbrev μ-loop : tie.MeasureT-loop
 loop-holds : tie.Need-loop-holds Inv-loop μ-loop
 loop-holds c = (search needs, packed-start (point 6) (c .args .hs .now) (c .args .m))
 
-sub-i : tie.Need-sub-i Inv-loop μ-loop
-sub-i c = search needs
-
-mul-point : tie.Need-mul-point Inv-loop μ-loop
-mul-point c = search needs
-
-element-copy-out-point : tie.Need-element-copy-out-point Inv-loop μ-loop
-element-copy-out-point c = search needs
-
-point-requires : tie.Need-point-requires Inv-loop μ-loop
-point-requires c κs = search needs
-
 prepend-requires : tie.Need-prepend-requires Inv-loop μ-loop
 prepend-requires c κs =
     let l = c .before .before .before in
@@ -40,9 +28,6 @@ prepend-requires c κs =
       rw (c .point .ensures) (point-bits 6 _),
       rw (l .loop .inv .1) (packed-room (point 6) (a .hs .now) (a .m) (point-bits 6) (omega arith) (l .loop .i)),
     )
-
-loop-less : tie.Need-loop-less Inv-loop μ-loop
-loop-less c = search needs
 
 loop-again : tie.Need-loop-again Inv-loop μ-loop
 loop-again c =
@@ -67,11 +52,11 @@ points-spec =
     Inv-loop
     μ-loop
     loop-holds
-    sub-i
-    mul-point
-    element-copy-out-point
-    point-requires
+    (λ c. search needs)
+    (λ c. search needs)
+    (λ c. search needs)
+    (λ c κs. search needs)
     prepend-requires
-    loop-less
+    (λ c. search needs)
     loop-again
     returns)

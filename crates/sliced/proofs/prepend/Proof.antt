@@ -18,56 +18,20 @@ fit s j h =
     let hr : length (s .args .t2) ≡ 6 = omega (arith, s .good) in
     (le-of-suc-le-suc (width-at 1 (s .args .t1) j (s .pre .0) (omega arith)), width-at 63 (s .args .t2) j (s .pre .1) (omega arith))
 
-array-read-push : tie.Need-array-read-push
-array-read-push c = search needs
-
-array-read-push-2 : tie.Need-array-read-push-2
-array-read-push-2 c = search needs
-
 push-requires : tie.Need-push-requires
 push-requires c κs = fit c 0 (omega arith)
-
-array-read-push-3 : tie.Need-array-read-push-3
-array-read-push-3 c = search needs
-
-array-read-push-4 : tie.Need-array-read-push-4
-array-read-push-4 c = search needs
 
 push-requires-2 : tie.Need-push-requires-2
 push-requires-2 c κs = fit (c .before) 1 (omega arith)
 
-array-read-push-5 : tie.Need-array-read-push-5
-array-read-push-5 c = search needs
-
-array-read-push-6 : tie.Need-array-read-push-6
-array-read-push-6 c = search needs
-
 push-requires-3 : tie.Need-push-requires-3
 push-requires-3 c κs = fit (c .before .before) 2 (omega arith)
-
-array-read-push-7 : tie.Need-array-read-push-7
-array-read-push-7 c = search needs
-
-array-read-push-8 : tie.Need-array-read-push-8
-array-read-push-8 c = search needs
 
 push-requires-4 : tie.Need-push-requires-4
 push-requires-4 c κs = fit (c .before .before .before) 3 (omega arith)
 
-array-read-push-9 : tie.Need-array-read-push-9
-array-read-push-9 c = search needs
-
-array-read-push-10 : tie.Need-array-read-push-10
-array-read-push-10 c = search needs
-
 push-requires-5 : tie.Need-push-requires-5
 push-requires-5 c κs = fit (c .before .before .before .before) 4 (omega arith)
-
-array-read-push-11 : tie.Need-array-read-push-11
-array-read-push-11 c = search needs
-
-array-read-push-12 : tie.Need-array-read-push-12
-array-read-push-12 c = search needs
 
 push-requires-6 : tie.Need-push-requires-6
 push-requires-6 c κs = fit (c .before .before .before .before .before) 5 (omega arith)
@@ -93,22 +57,22 @@ pub prepend-spec : {M : Type 1} → statement M
 prepend-spec =
     tie.close
     (tie.spec
-    array-read-push
-    array-read-push-2
+    (λ c. search needs)
+    (λ c. search needs)
     push-requires
-    array-read-push-3
-    array-read-push-4
+    (λ c. search needs)
+    (λ c. search needs)
     push-requires-2
-    array-read-push-5
-    array-read-push-6
+    (λ c. search needs)
+    (λ c. search needs)
     push-requires-3
-    array-read-push-7
-    array-read-push-8
+    (λ c. search needs)
+    (λ c. search needs)
     push-requires-4
-    array-read-push-9
-    array-read-push-10
+    (λ c. search needs)
+    (λ c. search needs)
     push-requires-5
-    array-read-push-11
-    array-read-push-12
+    (λ c. search needs)
+    (λ c. search needs)
     push-requires-6
     returns)

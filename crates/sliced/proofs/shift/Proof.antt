@@ -16,62 +16,20 @@ coefficient s j h =
     let hl : length (s .args .t2) ≡ 6 = omega (arith, s .good) in
     low-bit (s .args .d) (s .args .t2) (s .pre .1) (s .pre .0 .1) j (omega arith)
 
-sub-top : tie.Need-sub-top
-sub-top c = search needs
-
-mul-top : tie.Need-mul-top
-mul-top c = search needs
-
-array-read-top : tie.Need-array-read-top
-array-read-top c = search needs
-
-array-read-down : tie.Need-array-read-down
-array-read-down c = search needs
-
 down-requires : tie.Need-down-requires
 down-requires c κs = coefficient c 0 (omega arith)
-
-array-read-down-2 : tie.Need-array-read-down-2
-array-read-down-2 c = search needs
-
-array-read-down-3 : tie.Need-array-read-down-3
-array-read-down-3 c = search needs
 
 down-requires-2 : tie.Need-down-requires-2
 down-requires-2 c κs = coefficient (c .before) 1 (omega arith)
 
-array-read-down-4 : tie.Need-array-read-down-4
-array-read-down-4 c = search needs
-
-array-read-down-5 : tie.Need-array-read-down-5
-array-read-down-5 c = search needs
-
 down-requires-3 : tie.Need-down-requires-3
 down-requires-3 c κs = coefficient (c .before .before) 2 (omega arith)
-
-array-read-down-6 : tie.Need-array-read-down-6
-array-read-down-6 c = search needs
-
-array-read-down-7 : tie.Need-array-read-down-7
-array-read-down-7 c = search needs
 
 down-requires-4 : tie.Need-down-requires-4
 down-requires-4 c κs = coefficient (c .before .before .before) 3 (omega arith)
 
-array-read-down-8 : tie.Need-array-read-down-8
-array-read-down-8 c = search needs
-
-array-read-down-9 : tie.Need-array-read-down-9
-array-read-down-9 c = search needs
-
 down-requires-5 : tie.Need-down-requires-5
 down-requires-5 c κs = coefficient (c .before .before .before .before) 4 (omega arith)
-
-array-read-down-10 : tie.Need-array-read-down-10
-array-read-down-10 c = search needs
-
-array-read-down-11 : tie.Need-array-read-down-11
-array-read-down-11 c = search needs
 
 down-requires-6 : tie.Need-down-requires-6
 down-requires-6 c κs = coefficient (c .before .before .before .before .before) 5 (omega arith)
@@ -95,24 +53,24 @@ pub shift-spec : {M : Type 1} → statement M
 shift-spec =
     tie.close
     (tie.spec
-    sub-top
-    mul-top
-    array-read-top
-    array-read-down
+    (λ c. search needs)
+    (λ c. search needs)
+    (λ c. search needs)
+    (λ c. search needs)
     down-requires
-    array-read-down-2
-    array-read-down-3
+    (λ c. search needs)
+    (λ c. search needs)
     down-requires-2
-    array-read-down-4
-    array-read-down-5
+    (λ c. search needs)
+    (λ c. search needs)
     down-requires-3
-    array-read-down-6
-    array-read-down-7
+    (λ c. search needs)
+    (λ c. search needs)
     down-requires-4
-    array-read-down-8
-    array-read-down-9
+    (λ c. search needs)
+    (λ c. search needs)
     down-requires-5
-    array-read-down-10
-    array-read-down-11
+    (λ c. search needs)
+    (λ c. search needs)
     down-requires-6
     returns)

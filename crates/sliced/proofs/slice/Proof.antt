@@ -20,18 +20,6 @@ abbrev μ-loop : tie.MeasureT-loop
 loop-holds : tie.Need-loop-holds Inv-loop μ-loop
 loop-holds c = (search needs, packed-start (λ y. lane 6 y (c .args .v)) (c .args .ys .now) (c .args .m), refl)
 
-sub-i : tie.Need-sub-i Inv-loop μ-loop
-sub-i c = search needs
-
-mul-bits-of : tie.Need-mul-bits-of Inv-loop μ-loop
-mul-bits-of c = search needs
-
-element-copy-out-bits-of : tie.Need-element-copy-out-bits-of Inv-loop μ-loop
-element-copy-out-bits-of c = search needs
-
-bits-of-requires : tie.Need-bits-of-requires Inv-loop μ-loop
-bits-of-requires c κs = search needs
-
 prepend-requires : tie.Need-prepend-requires Inv-loop μ-loop
 prepend-requires c κs =
     let l = c .before .before .before in
@@ -39,9 +27,6 @@ prepend-requires c κs =
       rw (c .bits-of .ensures) (lane-bits 6 _ (a .v)),
       rw (l .loop .inv .1) (packed-room (λ y. lane 6 y (a .v)) (a .ys .now) (a .m) (λ y. lane-bits 6 y (a .v)) (omega arith) (l .loop .i)),
     )
-
-loop-less : tie.Need-loop-less Inv-loop μ-loop
-loop-less c = search needs
 
 loop-again : tie.Need-loop-again Inv-loop μ-loop
 loop-again c =
@@ -67,11 +52,11 @@ slice-spec =
     Inv-loop
     μ-loop
     loop-holds
-    sub-i
-    mul-bits-of
-    element-copy-out-bits-of
-    bits-of-requires
+    (λ c. search needs)
+    (λ c. search needs)
+    (λ c. search needs)
+    (λ c κs. search needs)
     prepend-requires
-    loop-less
+    (λ c. search needs)
     loop-again
     returns)

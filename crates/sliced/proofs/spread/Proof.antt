@@ -9,42 +9,6 @@ use Rattle.sliced.proofs.Turns.{map-six}
 use Rattle.sliced.proofs.spread.Statement.{statement}
 use Rattle.sliced.proofs.spread.Tie as tie
 
-array-read-fill : tie.Need-array-read-fill
-array-read-fill c = search needs
-
-fill-requires : tie.Need-fill-requires
-fill-requires c κs = search needs
-
-array-read-fill-2 : tie.Need-array-read-fill-2
-array-read-fill-2 c = search needs
-
-fill-requires-2 : tie.Need-fill-requires-2
-fill-requires-2 c κs = search needs
-
-array-read-fill-3 : tie.Need-array-read-fill-3
-array-read-fill-3 c = search needs
-
-fill-requires-3 : tie.Need-fill-requires-3
-fill-requires-3 c κs = search needs
-
-array-read-fill-4 : tie.Need-array-read-fill-4
-array-read-fill-4 c = search needs
-
-fill-requires-4 : tie.Need-fill-requires-4
-fill-requires-4 c κs = search needs
-
-array-read-fill-5 : tie.Need-array-read-fill-5
-array-read-fill-5 c = search needs
-
-fill-requires-5 : tie.Need-fill-requires-5
-fill-requires-5 c κs = search needs
-
-array-read-fill-6 : tie.Need-array-read-fill-6
-array-read-fill-6 c = search needs
-
-fill-requires-6 : tie.Need-fill-requires-6
-fill-requires-6 c κs = search needs
-
 returns : tie.Need-returns
 unfolding spreadLane
 returns c =
@@ -64,16 +28,16 @@ pub spread-spec : {M : Type 1} → statement M
 spread-spec =
     tie.close
     (tie.spec
-    array-read-fill
-    fill-requires
-    array-read-fill-2
-    fill-requires-2
-    array-read-fill-3
-    fill-requires-3
-    array-read-fill-4
-    fill-requires-4
-    array-read-fill-5
-    fill-requires-5
-    array-read-fill-6
-    fill-requires-6
+    (λ c. search needs)
+    (λ c κs. search needs)
+    (λ c. search needs)
+    (λ c κs. search needs)
+    (λ c. search needs)
+    (λ c κs. search needs)
+    (λ c. search needs)
+    (λ c κs. search needs)
+    (λ c. search needs)
+    (λ c κs. search needs)
+    (λ c. search needs)
+    (λ c κs. search needs)
     returns)

@@ -19,24 +19,6 @@ abbrev μ-loop : tie.MeasureT-loop
 loop-holds : tie.Need-loop-holds Inv-loop μ-loop
 loop-holds c = (search needs, horner-start (c .args .d) (c .args .t3) (c .args .b))
 
-sub-i : tie.Need-sub-i Inv-loop μ-loop
-sub-i c = search needs
-
-shift-requires : tie.Need-shift-requires Inv-loop μ-loop
-shift-requires c κs = search needs
-
-mul-add-scaled : tie.Need-mul-add-scaled Inv-loop μ-loop
-mul-add-scaled c = search needs
-
-array-read-add-scaled : tie.Need-array-read-add-scaled Inv-loop μ-loop
-array-read-add-scaled c = search needs
-
-add-scaled-requires : tie.Need-add-scaled-requires Inv-loop μ-loop
-add-scaled-requires c κs = search needs
-
-loop-less : tie.Need-loop-less Inv-loop μ-loop
-loop-less c = search needs
-
 loop-again : tie.Need-loop-again Inv-loop μ-loop
 loop-again c =
     let l = c .before .before .before in
@@ -47,9 +29,6 @@ loop-again c =
       rw (c .add-scaled .ensures, c .before .shift .ensures, s .pre .1, l .loop .inv .1)
           (horner-turn (a .d) (a .t3) (a .b) (l .loop .i) (omega arith) (omega arith) (omega arith)),
     )
-
-keep-requires : tie.Need-keep-requires Inv-loop μ-loop
-keep-requires c κs = search needs
 
 returns : tie.Need-returns Inv-loop μ-loop
 unfolding timesLanes
@@ -67,12 +46,12 @@ times-by-spec =
     Inv-loop
     μ-loop
     loop-holds
-    sub-i
-    shift-requires
-    mul-add-scaled
-    array-read-add-scaled
-    add-scaled-requires
-    loop-less
+    (λ c. search needs)
+    (λ c κs. search needs)
+    (λ c. search needs)
+    (λ c. search needs)
+    (λ c κs. search needs)
+    (λ c. search needs)
     loop-again
-    keep-requires
+    (λ c κs. search needs)
     returns)

@@ -1,8 +1,8 @@
--- `ring::point` meets its contract: it computes. Assumes nothing.
+-- `sliced::point` meets its contract: it computes. Assumes nothing.
 use mathlib.Core.Path.{refl}
 use Rattle.galois.specs.Element.{point}
-use Rattle.ring.proofs.point.Statement.{statement}
-use Rattle.ring.proofs.point.Tie as tie
+use Rattle.sliced.proofs.point.Statement.{statement}
+use Rattle.sliced.proofs.point.Tie as tie
 
 returns : tie.Need-returns
 unfolding point

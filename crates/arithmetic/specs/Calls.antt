@@ -1,24 +1,10 @@
 -- The calls on lent elements, paper 01, "When a call declines": which fault counts, for every input. Assumes nothing.
 use Prim.Native.Nat.{ℕ}
 use mathlib.Core.List.{List}
-use lib.Dec.{eqb}
 use lib.ListN.{length}
 use Rattle.words.specs.declared.Params.{Params}
-use Rattle.words.specs.Params.{paramsOk}
-use Rattle.words.specs.Word.{allInWidth}
-use Rattle.words.specs.Refusal.{first, unless}
-
--- "k, d, n, t [..] is outside its range"
-unfoldable pub paramsFault : Params → ℕ
-paramsFault p = unless (paramsOk p) 1
-
--- "a lent list or output is not exactly the length its call needs"
-unfoldable pub lengthFault : ℕ → ℕ → ℕ
-lengthFault d n = unless (eqb n d) 2
-
--- "a word used by the call is 2^k or more"
-unfoldable pub widthFault : ℕ → List ℕ → ℕ
-widthFault k s = unless (allInWidth k s) 3
+use Rattle.words.specs.Faults.{paramsFault, lengthFault, widthFault}
+use Rattle.words.specs.Refusal.{first}
 
 -- a call with one operand, or two, and an output of n words; "Order outside files: 1, 2, [..] 3"
 unfoldable pub operandFault : Params → List ℕ → ℕ → ℕ
