@@ -1,9 +1,9 @@
 pub mod AtBit
 pub mod Decision
+pub mod FieldDecoder
+pub mod Interpolation
+pub mod KeyEquation
 pub mod Lanes
-pub mod Located
-pub mod Rests
+pub mod ResidueRows
 pub mod Shares
-pub mod Trusted
 pub mod Turns
-pub mod Verdict

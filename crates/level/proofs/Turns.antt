@@ -1,6 +1,6 @@
 -- What the parts of the code compute, as laws over lists: the step by which pair leads, and turns of the loops. Assumes nothing.
 use mathlib.Core.Path.{_≡_, refl, sym, _∙_, ap, ap₂}
-use mathlib.Core.Bool.{Bool, true, false}
+use mathlib.Core.Bool.{Bool, false}
 use mathlib.Core.List.{List}
 use Prim.Native.Nat.{ℕ, suc, _+_, _-_, _*_, _/_, _%_, _^_, _≤_, _<_}
 use native.Mathlib.Nat.{one-mul, mod-eq-of-lt}
@@ -10,11 +10,11 @@ use lib.Pow.{pow-lt}
 use lib.Dec.{leb, eqb}
 use lib.ListN.{getD, replicate}
 use borrow.Author.Tests.{le-leb, lt-leb, eq-eqb}
-use Rattle.algebra.proofs.KeyEquation.{Pivot, none, first, second, pivot}
+use Rattle.algebra.specs.KeyEquation.{Pivot, none, first, second, pivot}
 use Rattle.sliced.specs.Lane.{plusLanes, timesLanes, spreadLane}
 use Rattle.level.specs.Shares.{holderSet}
 use Rattle.level.specs.KeyEquation.{Pairs, leadOf, zeroAt, mixLanes, rootLanes, raised, moveLanes, stepLanes, ones, startLanes, runLanes}
-use Rattle.level.specs.Interpolation.{Newton, newtonOf, trustIf, trustLanes, startNewton, gatherLanes}
+use Rattle.level.specs.Interpolation.{Newton, newtonOf, taken, trustLanes, startNewton, gatherLanes}
 use Rattle.level.specs.declared.Lead.{Lead}
 
 -- which pair leads
@@ -94,7 +94,7 @@ module _ (d : ℕ) (xs : List ℕ) where
     unfolding trustLanes
     trust-out h z = rw (le-leb (s .n) t h, eq-eqb (w / 2 ^ i % 2) 0 z)
 
-    pub trust-in : s .n ≤ t → eqb (w / 2 ^ i % 2) 0 ≡ false → trustIf true d xs i s ≡ trustLanes d xs t w i s
+    pub trust-in : s .n ≤ t → eqb (w / 2 ^ i % 2) 0 ≡ false → taken d xs i s ≡ trustLanes d xs t w i s
     unfolding trustLanes
     trust-in h z = rw (le-leb (s .n) t h, z)
 

@@ -1,5 +1,6 @@
--- Interpolation through trusted shares as the decoder does it, without division, by values at the shares' points. Assumes nothing.
-use mathlib.Core.Bool.{Bool, true, false, not, _&&_}
+-- Internal: interpolation through trusted shares as the decoder does it, without division, by values at the shares'
+-- points. Assumes nothing.
+use mathlib.Core.Bool.{cond, not, _&&_}
 use mathlib.Core.List.{List}
 use Prim.Native.Nat.{ℕ, zero, suc, _+_, _-_, _/_, _%_, _^_}
 use lib.Dec.{leb, eqb}
@@ -18,18 +19,17 @@ abbrev pub newtonOf : ℕ → List ℕ → List ℕ → Newton
 newtonOf n gap nodal = record { gap = gap; nodal = nodal; n = n }
 
 -- one share more: the gap of each share is made the same multiple, and that of the nodal polynomial taken off
-abbrev pub trustIf : Bool → ℕ → List ℕ → ℕ → Newton → Newton
-trustIf true d xs i s =
+abbrev pub taken : ℕ → List ℕ → ℕ → Newton → Newton
+taken d xs i s =
     record {
       gap = mixLanes d (spreadLane (s .nodal) i) (s .gap) (spreadLane (s .gap) i) (s .nodal);
       nodal = timesLanes d (rootLanes xs i) (s .nodal);
       n = s .n + 1;
     }
-trustIf false d xs i s = s
 
 -- a share is taken in if it is trusted, unless t + 1 are in
 unfoldable pub trustLanes : ℕ → List ℕ → ℕ → ℕ → ℕ → Newton → Newton
-trustLanes d xs t w i s = trustIf (leb (s .n) t && not (eqb (w / 2 ^ i % 2) 0)) d xs i s
+trustLanes d xs t w i s = cond (leb (s .n) t && not (eqb (w / 2 ^ i % 2) 0)) (taken d xs i s) s
 
 -- before any share: the polynomial is zero
 abbrev pub startNewton : List ℕ → Newton

@@ -1,12 +1,11 @@
--- The key equation as the decoder solves it: by the values of its two pairs of polynomials at the shares, lane i for share i, and the step
--- that takes in one share. What it has to do with codewords is proved in proofs/: a contract cites it only to say what a part of the decoder
--- computes. Assumes nothing.
+-- Internal: the key equation as the decoder solves it: by the values of its two pairs of polynomials at the shares,
+-- lane i for share i, and the step that takes in one share. What it has to do with codewords is proved in proofs/. Assumes nothing.
 use mathlib.Core.Bool.{Bool}
 use mathlib.Core.List.{List, [], _∷_}
 use Prim.Native.Nat.{ℕ, zero, suc, _+_, _-_, _/_, _%_, _^_}
 use lib.Dec.{leb, eqb}
 use lib.ListN.{replicate}
-use Rattle.algebra.proofs.KeyEquation.{Pivot, none, first, second, pivot}
+use Rattle.algebra.specs.KeyEquation.{Pivot, none, first, second, pivot}
 use Rattle.sliced.specs.Lane.{plusLanes, timesLanes, spreadLane, supportOf}
 use Rattle.level.specs.declared.Lead.{Lead}
 use Rattle.level.specs.declared.Lead.the-variants.{Neither, First, Second}

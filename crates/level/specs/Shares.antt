@@ -1,6 +1,6 @@
--- Shares as they are lent to the decoder: holders in one array, words in another, of which the first m count. Assumes nothing.
+-- Internal: shares as they are lent to the decoder: holders in one array, words in another, of which the first m count. Assumes nothing.
 use mathlib.Core.Path.{_≡_}
-use mathlib.Core.Bool.{Bool, true, false}
+use mathlib.Core.Bool.{cond}
 use mathlib.Core.List.{List, [], _∷_, _++_, map}
 use Prim.Native.Nat.{ℕ, zero, suc, _-_, _/_, _%_, _^_, _≤_, _<_}
 use lib.Bits.{bitOr}
@@ -43,10 +43,8 @@ abbrev pub Numbered : ℕ → List ℕ → Type 0
 Numbered m hs = (i : ℕ) → i < m → (1 ≤ getD hs i 0) × (getD hs i 0 ≤ 63)
 
 -- the set of the holders, of n from index i on, whose places are in the set w
-abbrev pub orIf : Bool → ℕ → ℕ → ℕ
-orIf true b r = bitOr r b
-orIf false b r = r
-
 unfoldable pub holderSet : ℕ → List ℕ → ℕ → ℕ → ℕ
 holderSet w hs i zero = 0
-holderSet w hs i (suc n) = orIf (eqb (w / 2 ^ i % 2) 1) (2 ^ (getD hs i 0 - 1)) (holderSet w hs (suc i) n)
+holderSet w hs i (suc n) =
+    let rest = holderSet w hs (suc i) n in
+    cond (eqb (w / 2 ^ i % 2) 1) (bitOr rest (2 ^ (getD hs i 0 - 1))) rest

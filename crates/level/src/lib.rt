@@ -9,14 +9,15 @@ ghost use mathlib.Core.List.{map};
 ghost use Prim.Native.Nat.{suc, _+_, _*_, _≤_, _<_};
 ghost use lib.Dec.{leb};
 ghost use lib.ListN.{length, take};
-ghost use Rattle.algebra.proofs.KeyEquation.{pivot};
+ghost use Rattle.algebra.specs.KeyEquation.{pivot};
 ghost use Rattle.galois.specs.Element.{held};
-ghost use Rattle.polynomial.specs.Rows.{Shaped, coefs};
+ghost use Rattle.polynomial.specs.Rows.{coefs};
 ghost use Rattle.codewords.specs.Codeword.{codeword};
+ghost use Rattle.codewords.specs.Opening.{faultOf, fromCodeword};
 ghost use Rattle.codewords.specs.Residue.{residue, bitShare};
 ghost use Rattle.codewords.specs.WellFormed.{Holders};
 ghost use Rattle.sliced.specs.Lane.{timesLanes, spreadLane, supportOf};
-ghost use Rattle.level.specs.Level.{levelOf};
+ghost use Rattle.level.specs.Level.{levelOf, levelFault};
 ghost use Rattle.level.specs.Shares.{share, sharesOf, Sized, Numbered, holderSet, residueRows};
 ghost use Rattle.level.specs.KeyEquation.{pairsOf, leadOf, zeroAt, mixLanes, rootLanes, stepLanes, startLanes, runLanes};
 ghost use Rattle.level.specs.Interpolation.{newtonOf, trustLanes, startNewton, gatherLanes};
@@ -41,9 +42,9 @@ enum Lead {
 }
 
 // What the polynomial p leaves of holder x's share y.
-fn residue(k: u64, d: usize, p: &[[u64; 6]; 64], t: usize, x: u64, y: [u64; 6]) -> [u64; 6]
-    requires { ⌜ ((1 ≤ k) × (k ≤ 64)) × ((2 ≤ d) × (d ≤ 6)) × (t ≤ 62) × Shaped (now p) ⌝ }
-    ensures { λ r. ⌜ r ≡ held d (residue k d (coefs d (suc t) (now (p .entry))) (share x (take d y))) ⌝ }
+fn residue(k: u64, d: usize, p: [[u64; 6]; 64], t: usize, x: u64, y: [u64; 6]) -> [u64; 6]
+    requires { ⌜ ((1 ≤ k) × (k ≤ 64)) × ((2 ≤ d) × (d ≤ 6)) × (t ≤ 62) ⌝ }
+    ensures { λ r. ⌜ r ≡ held d (residue k d (coefs d (suc t) p) (share x (take d y))) ⌝ }
 {
     let v = polynomial::eval(k, d, p, t + 1, x);
     ring::keep(d, ring::difference(k, y, v))
@@ -67,7 +68,7 @@ pub fn residues(
 {
     let mut i = t + 1;
     while i < m {
-        rest[i] = residue(k, d, &p, t, hs[i], ys[i]);
+        rest[i] = residue(k, d, p, t, hs[i], ys[i]);
         i += 1;
     }
 }
@@ -278,8 +279,10 @@ pub fn decide(
 ) -> Level
     requires { ⌜ ((2 ≤ d) × (d ≤ 6)) × (v < 64) × (t ≤ 62) × (m ≤ 63)
         × Holders d (sharesOf d m (now hs) (now rest)) × Sized d (sharesOf d m (now hs) (now rest)) × (suc t + 2 * e ≤ m) ⌝ }
-    ensures { λ r. ⌜ r ≡ levelOf d (map (bitShare v) (sharesOf d m (now (hs .entry)) (now (rest .entry))))
+    ensures level { λ r. ⌜ r ≡ levelOf d (map (bitShare v) (sharesOf d m (now (hs .entry)) (now (rest .entry))))
         (codeword 1 d t e (map (bitShare v) (sharesOf d m (now (hs .entry)) (now (rest .entry))))) ⌝ }
+    ensures number { λ r. ⌜ levelFault r
+        ≡ faultOf (fromCodeword (codeword 1 d t e (map (bitShare v) (sharesOf d m (now (hs .entry)) (now (rest .entry)))))) ⌝ }
 {
     let y = sliced::slice(v, m, rest);
     let x = sliced::points(m, hs);

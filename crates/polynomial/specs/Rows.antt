@@ -1,4 +1,4 @@
--- Polynomials in arrays of rows: a row is an element in an array of six, the free term's row stands first. Assumes nothing.
+-- Internal: polynomials in arrays of rows: a row is an element in an array of six, the free term's row stands first. Assumes nothing.
 use mathlib.Core.Path.{_≡_}
 use mathlib.Core.List.{List, [], _∷_, map}
 use Prim.Native.Nat.{ℕ, zero, suc, _+_}

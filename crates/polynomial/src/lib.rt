@@ -48,11 +48,11 @@ fn eval64(d: usize, p: &[[u64; 6]; 64], len: usize, x: u64) -> [u64; 6]
 }
 
 // The value at holder x's point of the polynomial of the first len rows: words of 64 bits, reduced once at the end.
-pub fn eval(k: u64, d: usize, p: &[[u64; 6]; 64], len: usize, x: u64) -> [u64; 6]
-    requires { ⌜ ((1 ≤ k) × (k ≤ 64)) × ((2 ≤ d) × (d ≤ 6)) × (len ≤ 64) × Shaped (now p) ⌝ }
-    ensures { λ r. ⌜ r ≡ held d (value k d (coefs d len (now (p .entry))) (point d x)) ⌝ }
+pub fn eval(k: u64, d: usize, p: [[u64; 6]; 64], len: usize, x: u64) -> [u64; 6]
+    requires { ⌜ ((1 ≤ k) × (k ≤ 64)) × ((2 ≤ d) × (d ≤ 6)) × (len ≤ 64) ⌝ }
+    ensures { λ r. ⌜ r ≡ held d (value k d (coefs d len p) (point d x)) ⌝ }
 {
-    ring::reduce(k, eval64(d, p, len, x))
+    ring::reduce(k, eval64(d, &p, len, x))
 }
 
 // p := p - e q in words of 64 bits, in the first len rows.

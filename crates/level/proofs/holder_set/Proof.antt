@@ -18,18 +18,6 @@ abbrev μ-loop : tie.MeasureT-loop
 loop-holds : tie.Need-loop-holds Inv-loop μ-loop
 loop-holds c = (omega arith, set-start (c .args .lanes) (c .args .m) (c .args .hs .now))
 
-sub-i : tie.Need-sub-i Inv-loop μ-loop
-sub-i c = search needs
-
-shr-if1 : tie.Need-shr-if1 Inv-loop μ-loop
-shr-if1 c = search needs
-
-mul-w : tie.Need-mul-w Inv-loop μ-loop
-mul-w c = search needs
-
-element-copy-out-w : tie.Need-element-copy-out-w Inv-loop μ-loop
-element-copy-out-w c = search needs
-
 sub-w : tie.Need-sub-w Inv-loop μ-loop
 sub-w c =
     let l = c .before .before .before in
@@ -40,9 +28,6 @@ shl-w c =
     let l = c .before .before .before in
     omega (arith, l .before .pre .1 (l .loop .i - 1) (omega (arith, l .loop .inv .0)) .1)
 
-loop-less : tie.Need-loop-less Inv-loop μ-loop
-loop-less c = search needs
-
 loop-again : tie.Need-loop-again Inv-loop μ-loop
 loop-again c =
     let l = c .before .before .before in
@@ -51,9 +36,6 @@ loop-again c =
       set-in (a .lanes) (a .m) (a .hs .now) (l .loop .i) (omega arith) (l .loop .inv .0) (l .loop .w) (l .loop .inv .1) (c .before .if1 .taken)
           (l .before .pre .1 (l .loop .i - 1) (omega (arith, l .loop .inv .0)) .1),
     )
-
-loop-less-2 : tie.Need-loop-less-2 Inv-loop μ-loop
-loop-less-2 c = search needs
 
 loop-again-2 : tie.Need-loop-again-2 Inv-loop μ-loop
 loop-again-2 c =
@@ -78,14 +60,14 @@ holder-set-spec =
     Inv-loop
     μ-loop
     loop-holds
-    sub-i
-    shr-if1
-    mul-w
-    element-copy-out-w
+    (λ c. search needs)
+    (λ c. search needs)
+    (λ c. search needs)
+    (λ c. search needs)
     sub-w
     shl-w
-    loop-less
+    (λ c. search needs)
     loop-again
-    loop-less-2
+    (λ c. search needs)
     loop-again-2
     returns)

@@ -14,19 +14,10 @@ Inv-loop d xs t m v0₀ b0₀ v1₀ b1₀ g₀ i₀ v0 b0 v1 b1 g i = Ran d xs t
 abbrev μ-loop : tie.MeasureT-loop
 μ-loop d xs t m v0₀ b0₀ v1₀ b1₀ g₀ i₀ v0 b0 v1 b1 g i = i
 
-spread-requires : tie.Need-spread-requires Inv-loop μ-loop
-spread-requires c κs = search needs
-
-spread-requires-2 : tie.Need-spread-requires-2 Inv-loop μ-loop
-spread-requires-2 c κs = search needs
-
 loop-holds : tie.Need-loop-holds Inv-loop μ-loop
 loop-holds c =
     let a = c .before .before .args in
     run-start (a .d) (a .xs) (a .t) (a .m) _ (omega arith) (omega arith)
-
-sub-i : tie.Need-sub-i Inv-loop μ-loop
-sub-i c = search needs
 
 step-requires : tie.Need-step-requires Inv-loop μ-loop
 step-requires c κs =
@@ -34,17 +25,11 @@ step-requires c κs =
     let r = l .loop .inv in
     ((omega arith, omega arith), omega (arith, r .0), omega (arith, r .1), omega (arith, r .2))
 
-loop-less : tie.Need-loop-less Inv-loop μ-loop
-loop-less c = search needs
-
 loop-again : tie.Need-loop-again Inv-loop μ-loop
 loop-again c =
     let l = c .before .before .before .before .before .before in
     let a = l .before .before .before .args in
     run-turn (a .d) (a .xs) (a .t) (a .m) _ (l .loop .i) (omega arith) (l .loop .inv) (c .step .ensures)
-
-support-requires : tie.Need-support-requires Inv-loop μ-loop
-support-requires c κs = search needs
 
 returns : tie.Need-returns Inv-loop μ-loop
 returns c =
@@ -62,12 +47,12 @@ locate-spec =
     (tie.spec
     Inv-loop
     μ-loop
-    spread-requires
-    spread-requires-2
+    (λ c κs. search needs)
+    (λ c κs. search needs)
     loop-holds
-    sub-i
+    (λ c. search needs)
     step-requires
-    loop-less
+    (λ c. search needs)
     loop-again
-    support-requires
+    (λ c κs. search needs)
     returns)

@@ -19,32 +19,11 @@ returns c =
     let a = s .args in
     trust-late (a .d) (a .xs) (a .t) (a .trusted) (a .i) (entered s) (c .if1 .taken)
 
-shr-if2 : tie.Need-shr-if2
-shr-if2 c = search needs
-
 returns-2 : tie.Need-returns-2
 returns-2 c =
     let s = c .before .before in
     let a = s .args in
     trust-out (a .d) (a .xs) (a .t) (a .trusted) (a .i) (entered s) (omega (arith, c .before .if1 .left)) (c .if2 .taken)
-
-spread-requires : tie.Need-spread-requires
-spread-requires c κs = search needs
-
-plus-requires : tie.Need-plus-requires
-plus-requires c κs = search needs
-
-spread-requires-2 : tie.Need-spread-requires-2
-spread-requires-2 c κs = search needs
-
-spread-requires-3 : tie.Need-spread-requires-3
-spread-requires-3 c κs = search needs
-
-turn-requires : tie.Need-turn-requires
-turn-requires c κs = search needs
-
-add-result : tie.Need-add-result
-add-result c = search needs
 
 returns-3 : tie.Need-returns-3
 returns-3 c =
@@ -65,12 +44,12 @@ trust-spec =
     tie.close
     (tie.spec
     returns
-    shr-if2
+    (λ c. search needs)
     returns-2
-    spread-requires
-    plus-requires
-    spread-requires-2
-    spread-requires-3
-    turn-requires
-    add-result
+    (λ c κs. search needs)
+    (λ c κs. search needs)
+    (λ c κs. search needs)
+    (λ c κs. search needs)
+    (λ c κs. search needs)
+    (λ c. search needs)
     returns-3)

@@ -5,50 +5,20 @@ use Rattle.words.proofs.InRange.{six}
 use Rattle.polynomial.proofs.root.Statement.{statement}
 use Rattle.polynomial.proofs.root.Tie as tie
 
-root-by-requires : tie.Need-root-by-requires
-root-by-requires c κs = search needs
-
-root-by-requires-2 : tie.Need-root-by-requires-2
-root-by-requires-2 c κs = search needs
-
-root-by-requires-3 : tie.Need-root-by-requires-3
-root-by-requires-3 c κs = search needs
-
-root-by-requires-4 : tie.Need-root-by-requires-4
-root-by-requires-4 c κs = search needs
-
-root-by-requires-5 : tie.Need-root-by-requires-5
-root-by-requires-5 c κs = search needs
-
-returns : tie.Need-returns
-returns c = rw (c .before .before .match .keys1) (c .root-by .ensures)
-
-returns-2 : tie.Need-returns-2
-returns-2 c = rw (c .before .before .match .keys2) (c .root-by2 .ensures)
-
-returns-3 : tie.Need-returns-3
-returns-3 c = rw (c .before .before .match .keys3) (c .root-by3 .ensures)
-
-returns-4 : tie.Need-returns-4
-returns-4 c = rw (c .before .before .match .keys4) (c .root-by4 .ensures)
-
-returns-5 : tie.Need-returns-5
-returns-5 c =
-    let r = c .before .before .match .rest in
-    let d = c .before .before .before .args .d in
-    rw (six d (omega arith) (omega arith) (r .0 .0 .0 .1) (r .0 .0 .1) (r .0 .1) (r .1)) (c .root-by5 .ensures)
-
 pub root-spec : {M : Type 1} → statement M
 root-spec =
     tie.close
     (tie.spec
-    root-by-requires
-    root-by-requires-2
-    root-by-requires-3
-    root-by-requires-4
-    root-by-requires-5
-    returns
-    returns-2
-    returns-3
-    returns-4
-    returns-5)
+    (λ c κs. search needs)
+    (λ c κs. search needs)
+    (λ c κs. search needs)
+    (λ c κs. search needs)
+    (λ c κs. search needs)
+    (λ c. rw (c .before .before .match .keys1) (c .root-by .ensures))
+    (λ c. rw (c .before .before .match .keys2) (c .root-by2 .ensures))
+    (λ c. rw (c .before .before .match .keys3) (c .root-by3 .ensures))
+    (λ c. rw (c .before .before .match .keys4) (c .root-by4 .ensures))
+    (λ c.
+    let r = c .before .before .match .rest in
+    let d = c .before .before .before .args .d in
+    rw (six d (omega arith) (omega arith) (r .0 .0 .0 .1) (r .0 .0 .1) (r .0 .1) (r .1)) (c .root-by5 .ensures)))

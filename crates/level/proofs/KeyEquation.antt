@@ -14,7 +14,8 @@ use Rattle.algebra.proofs.Ring.{ring}
 use Rattle.algebra.proofs.Poly.{eval-lin, eval-mulx}
 use Rattle.algebra.proofs.Shares.{nonroot}
 use Rattle.algebra.proofs.KeyEquation as K
-use Rattle.algebra.proofs.KeyEquation.{Pivot, none, first, second, pivot, gap, gap-lin, gap-mulx}
+use Rattle.algebra.specs.KeyEquation.{Pivot, none, first, second, pivot}
+use Rattle.algebra.proofs.KeyEquation.{gap, gap-lin, gap-mulx}
 use Rattle.galois.proofs.Galois.{GR, neg-self}
 use Rattle.galois.proofs.Instance.{ringOf}
 use Rattle.sliced.specs.Lane.{supportOf}

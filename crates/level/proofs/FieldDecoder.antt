@@ -5,10 +5,11 @@ use mathlib.Core.Path.{_≡_, refl, sym, _∙_, ap, subst⁻¹}
 use mathlib.Core.Bool.{Bool, true, false, not, cond}
 use mathlib.Core.Logic.{_⊎_, inl, inr}
 use mathlib.Core.List.{List, [], _∷_, map}
-use mathlib.Core.Option.{some, none}
+use mathlib.Core.Option.{Option, some, none}
 use Prim.Native.Nat.{ℕ, zero, suc, _+_, _-_, _*_, _/_, _%_, _^_, _≤_, _<_}
 use native.Mathlib.Nat.{le-refl}
 use native.Mathlib.Omega.{arith}
+use lib.Bits.{bitOr}
 use lib.Count.{ones}
 use lib.Dec.{leb, eqb}
 use lib.ListN.{length, getD, drop, length-map, drop-of-length-le, List·getD-map}
@@ -30,6 +31,7 @@ use Rattle.galois.proofs.Points.{to-point}
 use Rattle.galois.proofs.Field.{is-field}
 use Rattle.galois.proofs.Instance.{ringOf}
 use Rattle.codewords.specs.Codeword.{Share, Polynomial, differs, errors, errorSet, codeword, when}
+use Rattle.codewords.specs.Opening.{faultOf, fromCodeword}
 use Rattle.codewords.specs.WellFormed.{IsElement, InWidth, Holders}
 use Rattle.codewords.proofs.Find.{fixed}
 use Rattle.codewords.proofs.Value.{shareOf, rows-of, differs-misses}
@@ -37,14 +39,14 @@ use Rattle.codewords.proofs.Unique.{poly-back}
 use Rattle.codewords.proofs.ErrorSet.{or-new, bit-clear, ones-errors}
 use Rattle.codewords.proofs.Candidate.{poly-of, chosen, too-few}
 use Rattle.sliced.specs.Lane.{lane, supportOf}
-use Rattle.level.specs.Level.{levelOf}
-use Rattle.level.specs.Shares.{orIf, holderSet}
+use Rattle.level.specs.Level.{levelOf, levelFault}
+use Rattle.level.specs.Shares.{holderSet}
 use Rattle.level.specs.KeyEquation.{startLanes, runLanes}
 use Rattle.level.specs.Interpolation.{Newton, startNewton, gatherLanes}
 use Rattle.level.specs.declared.Level.the-variants.{Codeword, Nothing}
 use Rattle.level.proofs.Lanes.{Lanes, lanes-same, in-support}
-use Rattle.level.proofs.Located.{locates}
-use Rattle.level.proofs.Trusted.{Gathered, gathered-all}
+use Rattle.level.proofs.KeyEquation.{locates}
+use Rattle.level.proofs.Interpolation.{Gathered, gathered-all}
 use Rattle.level.proofs.Shares.{holders-drop}
 
 count-map : (d : ℕ) (U : A.Share (GR d 1) → Bool) (ss : List Share) → count (λ s. U (shareOf 1 d s)) ss ≡ count U (map (shareOf 1 d) ss)
@@ -69,7 +71,7 @@ module _ (d : ℕ) (c : Polynomial) (ss : List Share) (s₀ : Share) (a : Holder
     (hh : (i : ℕ) → i < length ss → getD ss i s₀ .holder ≡ getD hs i 0)
     (hd : (i : ℕ) → i < length ss → eqb (w / 2 ^ i % 2) 1 ≡ differs 1 d c (getD ss i s₀)) where
   put : (s : Share) (rest : List Share) → Holders d (s ∷ rest) → (b : Bool) →
-      orIf b (2 ^ (s .holder - 1)) (errorSet 1 d c rest) ≡ when b (2 ^ (s .holder - 1)) + errorSet 1 d c rest
+      cond b (bitOr (errorSet 1 d c rest) (2 ^ (s .holder - 1))) (errorSet 1 d c rest) ≡ when b (2 ^ (s .holder - 1)) + errorSet 1 d c rest
   put s rest h true =
       let j = s .holder - 1 in
       let n : suc j ≡ s .holder = omega (arith, h .0 .0) in
@@ -82,7 +84,7 @@ module _ (d : ℕ) (c : Polynomial) (ss : List Share) (s₀ : Share) (a : Holder
   set-from (suc n) i e =
       let l : i < length ss = omega arith in
       let q : drop i ss ≡ getD ss i s₀ ∷ drop (suc i) ss = drop-cons ss i s₀ l in
-      (λ j. orIf (hd i l j) (2 ^ (sym (hh i l) j - 1)) (set-from n (suc i) (omega arith) j))
+      (λ j. let r = set-from n (suc i) (omega arith) j in cond (hd i l j) (bitOr r (2 ^ (sym (hh i l) j - 1))) r)
       ∙ put (getD ss i s₀) (drop (suc i) ss) (rw q at (holders-drop d ss i a)) (differs 1 d c (getD ss i s₀))
       ∙ ap (errorSet 1 d c) (sym q)
 
@@ -199,3 +201,9 @@ module _ (d : ℕ) (dl : 2 ≤ d) (dh : d ≤ 6) (t e : ℕ) (ss : List Share) (
       verdict-none h =
           let l : codeword 1 d t e ss ≡ none = is-codeword ∙ rw (lt-leb (errors 1 d c ss) e (omega (arith, counted))) in
           rw l
+
+-- the number of the answer
+pub level-fault : (d : ℕ) (ss : List Share) (o : Option Polynomial) → levelFault (levelOf d ss o) ≡ faultOf (fromCodeword o)
+unfolding levelFault levelOf
+level-fault d ss none = refl
+level-fault d ss (some p) = refl

@@ -1,7 +1,7 @@
 -- Interpolation by values through shares that pass a test, at most t + 1 of them: what the lanes are once some shares are looked at
 -- (`gathered-all`). Assumes nothing.
 use mathlib.Core.Path.{_≡_, refl, sym, _∙_, ap, subst⁻¹}
-use mathlib.Core.Bool.{Bool, true, false, not, _&&_}
+use mathlib.Core.Bool.{Bool, true, false, not, cond, _&&_}
 use mathlib.Core.Logic.{_⊎_, inl, inr, _≢_}
 use mathlib.Core.List.{List, [], _∷_, map, List·Memᴰ, List·Memᴰ·head, List·Memᴰ·tail}
 use Prim.Native.Nat.{ℕ, zero, suc, _+_, _-_, _/_, _%_, _^_, _≤_, _<_}
@@ -26,9 +26,9 @@ use Rattle.codewords.specs.WellFormed.{Different, Holders}
 use Rattle.codewords.proofs.Value.{shareOf}
 use Rattle.codewords.proofs.Unique.{apart-of}
 use Rattle.codewords.proofs.Candidate.{member}
-use Rattle.level.specs.Interpolation.{Newton, trustIf, trustLanes, startNewton, gatherLanes}
+use Rattle.level.specs.Interpolation.{Newton, taken, trustLanes, startNewton, gatherLanes}
 use Rattle.level.proofs.Lanes.{Lanes, lanes-same, lanes-times, lanes-spread, lanes-mix, lanes-root, lanes-one}
-use Rattle.level.proofs.Located.{start-one}
+use Rattle.level.proofs.KeyEquation.{start-one}
 use Rattle.level.proofs.Shares.{holders-drop}
 
 module _ (d : ℕ) (dl : 2 ≤ d) (dh : d ≤ 6) (ss : List Share) (s₀ : Share) (m : ℕ) (lm : length ss ≡ m) (mh : m ≤ 63) (a : Holders d ss)
@@ -111,7 +111,7 @@ module _ (d : ℕ) (dl : 2 ≤ d) (dh : d ≤ 6) (ss : List Share) (s₀ : Share
           Fit : Share → Type 0
           Fit r = (1 ≤ r .holder) × (r .holder < 2 ^ d)
 
-      gathered-more : p .n ≤ t → T s ≡ true → Gathered (s ∷ l) (trustIf true d xs i p)
+      gathered-more : p .n ≤ t → T s ≡ true → Gathered (s ∷ l) (taken d xs i p)
       gathered-more h e =
           record {
             qs = s ∷ g .qs;
@@ -152,7 +152,7 @@ module _ (d : ℕ) (dl : 2 ≤ d) (dh : d ≤ 6) (ss : List Share) (s₀ : Share
           more (inl z) = inl (omega arith)
           more (inr z) = inr (omega (arith, ap bit e))
 
-      gathered-if : (v w : Bool) → leb (p .n) t ≡ v → T s ≡ w → Gathered (s ∷ l) (trustIf (v && w) d xs i p)
+      gathered-if : (v w : Bool) → leb (p .n) t ≡ v → T s ≡ w → Gathered (s ∷ l) (cond (v && w) (taken d xs i p) p)
       gathered-if true true x y = gathered-more (leb-true (p .n) t x) y
       gathered-if true false x y = gathered-same (less (g .rest))
         where
@@ -173,7 +173,7 @@ module _ (d : ℕ) (dl : 2 ≤ d) (dh : d ≤ 6) (ss : List Share) (s₀ : Share
         let e : suc (m - suc n) ≡ m - n = omega arith in
         let c : drop i ss ≡ getD ss i s₀ ∷ drop (m - n) ss = drop-cons ss i s₀ (omega (arith, lm)) ∙ ap (λ j. getD ss i s₀ ∷ drop j ss) e in
         subst⁻¹ (λ l. Gathered l (trustLanes d xs t w i p)) c
-        (subst⁻¹ (λ b. Gathered (getD ss i s₀ ∷ drop (m - n) ss) (trustIf (leb (p .n) t && b) d xs i p)) (test i (omega arith))
+        (subst⁻¹ (λ b. Gathered (getD ss i s₀ ∷ drop (m - n) ss) (cond (leb (p .n) t && b) (taken d xs i p) p)) (test i (omega arith))
         (gathered-if (getD ss i s₀) (drop (m - n) ss) p (gathered-run n (omega arith)) i (omega arith) refl
         (rw c at (holders-drop d ss i a)) (leb (p .n) t) (T (getD ss i s₀)) refl refl))
 
