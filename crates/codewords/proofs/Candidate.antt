@@ -19,7 +19,7 @@ use Rattle.algebra.proofs.Poly.{low-length}
 use Rattle.algebra.proofs.Shares.{all-map, nonroot}
 use Rattle.algebra.proofs.Interpolation.{interp, interp-only, length-interp}
 use Rattle.algebra.proofs.KeyEquation.{Pairs, Inv}
-use Rattle.algebra.proofs.FieldDecoder.{right, enough}
+use Rattle.algebra.proofs.Locator.{right, enough}
 use Rattle.galois.proofs.Galois.{GR}
 use Rattle.galois.proofs.Lists.{toList, ofList, length-toList, width-to}
 use Rattle.galois.proofs.Field.{is-field}

@@ -1,5 +1,6 @@
--- The error set as a number: bit h − 1 of it is set for each differing holder h and for no other (`bit-differs`, `bit-clear`), so it has as
--- many ones as shares differ (`ones-errors`), whatever order the holders come in. Assumes nothing.
+-- A set of holders as a number: bit h − 1 of it is set for each holder h whose share passes a test, and for no other (`set-marks`,
+-- `set-clear`), so it has as many ones as shares pass (`set-ones`), whatever order the holders come in; the test of the error set is that the
+-- share differs (`bit-clear`, `ones-errors`). Assumes nothing.
 use mathlib.Core.Path.{_≡_, refl, sym, _∙_, ap}
 use mathlib.Core.Bool.{Bool, true, false}
 use mathlib.Core.Logic.{_≢_}
@@ -14,6 +15,7 @@ use lib.Count.{ones, ones-step, ones-cat}
 use Rattle.algebra.specs.Shares.{All}
 use Rattle.codewords.specs.Codeword.{Share, Polynomial, when, differs, errors, errorSet}
 use Rattle.codewords.specs.WellFormed.{Different}
+use Rattle.codewords.proofs.Without.{Marks, tally, countOf, setOf, errors-tally, errorSet-tally}
 
 -- a bit that is clear, put in: one more is set, `|` is the sum, and no other bit changes
 pub ones-new : (w j : ℕ) → w / 2 ^ j % 2 ≡ 0 → ones (w + 2 ^ j) ≡ ones w + 1
@@ -70,61 +72,67 @@ no-ones : ones 0 ≡ 0
 unfolding ones
 no-ones = refl
 
-module _ (k d : ℕ) (p : Polynomial) where
+module _ (b : Share → Bool) where
   -- the bit of a holder that is not there is clear
-  pub bit-clear : (ss : List Share) (j : ℕ) → All (λ (s : Share). 1 ≤ s .holder) ss → Different ss → All (λ (s : Share). suc j ≢ s .holder) ss →
-      errorSet k d p ss / 2 ^ j % 2 ≡ 0
-  unfolding errorSet
-  bit-clear [] j a u n = rw (zero-div (2 ^ j))
-  bit-clear (s ∷ ss) j a u n =
-      go (differs k d p s) (bit-clear ss (s .holder - 1) (a .1) (u .1) (rw (up (s .holder) (a .0)) (u .0))) (bit-clear ss j (a .1) (u .1) (n .1))
+  set-clear : (ss : List Share) (j : ℕ) → All (λ (s : Share). 1 ≤ s .holder) ss → Different ss → All (λ (s : Share). suc j ≢ s .holder) ss →
+      setOf b ss / 2 ^ j % 2 ≡ 0
+  unfolding tally
+  set-clear [] j a u n = rw (zero-div (2 ^ j))
+  set-clear (s ∷ ss) j a u n =
+      go (b s) (set-clear ss (s .holder - 1) (a .1) (u .1) (rw (up (s .holder) (a .0)) (u .0))) (set-clear ss j (a .1) (u .1) (n .1))
     where
-      go : (b : Bool) → errorSet k d p ss / 2 ^ (s .holder - 1) % 2 ≡ 0 → errorSet k d p ss / 2 ^ j % 2 ≡ 0 →
-          (when b (2 ^ (s .holder - 1)) + errorSet k d p ss) / 2 ^ j % 2 ≡ 0
-      go true x y = ap (λ w. w / 2 ^ j % 2) (omega arith) ∙ bit-other (errorSet k d p ss) (s .holder - 1) j (λ e. n .0 (omega (arith, a .0))) x ∙ y
+      go : (c : Bool) → setOf b ss / 2 ^ (s .holder - 1) % 2 ≡ 0 → setOf b ss / 2 ^ j % 2 ≡ 0 →
+          (when c (2 ^ (s .holder - 1)) + setOf b ss) / 2 ^ j % 2 ≡ 0
+      go true x y = ap (λ w. w / 2 ^ j % 2) (omega arith) ∙ bit-other (setOf b ss) (s .holder - 1) j (λ e. n .0 (omega (arith, a .0))) x ∙ y
       go false x y = rw zero-add y
 
-  -- as many ones as shares differ
-  pub ones-errors : (ss : List Share) → All (λ (s : Share). 1 ≤ s .holder) ss → Different ss → ones (errorSet k d p ss) ≡ errors k d p ss
-  unfolding errorSet errors
-  ones-errors [] a u = no-ones
-  ones-errors (s ∷ ss) a u = go (differs k d p s) (ones-errors ss (a .1) (u .1))
+  -- as many ones as shares pass
+  pub set-ones : (ss : List Share) → All (λ (s : Share). 1 ≤ s .holder) ss → Different ss → ones (setOf b ss) ≡ countOf b ss
+  unfolding tally
+  set-ones [] a u = no-ones
+  set-ones (s ∷ ss) a u = go (b s) (set-ones ss (a .1) (u .1))
     where
-      go : (b : Bool) → ones (errorSet k d p ss) ≡ errors k d p ss →
-          ones (when b (2 ^ (s .holder - 1)) + errorSet k d p ss) ≡ when b 1 + errors k d p ss
+      go : (c : Bool) → ones (setOf b ss) ≡ countOf b ss → ones (when c (2 ^ (s .holder - 1)) + setOf b ss) ≡ when c 1 + countOf b ss
       go true h =
           ap ones (omega arith)
-          ∙ ones-new (errorSet k d p ss) (s .holder - 1) (bit-clear ss (s .holder - 1) (a .1) (u .1) (rw (up (s .holder) (a .0)) (u .0)))
+          ∙ ones-new (setOf b ss) (s .holder - 1) (set-clear ss (s .holder - 1) (a .1) (u .1) (rw (up (s .holder) (a .0)) (u .0)))
           ∙ omega arith
-      go false h = ap ones (zero-add (errorSet k d p ss)) ∙ h ∙ sym (zero-add (errors k d p ss))
+      go false h = ap ones (zero-add (setOf b ss)) ∙ h ∙ sym (zero-add (countOf b ss))
 
-  -- the bit of a holder that is there is set exactly where its share differs
-  pub bit-differs : (ss : List Share) → All (λ (s : Share). 1 ≤ s .holder) ss → Different ss →
-      All (λ (s : Share). errorSet k d p ss / 2 ^ (s .holder - 1) % 2 ≡ when (differs k d p s) 1) ss
-  unfolding errorSet
-  bit-differs [] a u = tt
-  bit-differs (s ∷ ss) a u =
-      let x = bit-clear ss (s .holder - 1) (a .1) (u .1) (rw (up (s .holder) (a .0)) (u .0)) in
-      (own (differs k d p s) x, others (differs k d p s) x ss (a .1) (u .0) (bit-differs ss (a .1) (u .1)))
+  -- the bit of a holder that is there is set exactly where its share passes
+  pub set-marks : (ss : List Share) → All (λ (s : Share). 1 ≤ s .holder) ss → Different ss → Marks (setOf b ss) b ss
+  unfolding tally
+  set-marks [] a u = tt
+  set-marks (s ∷ ss) a u =
+      let x = set-clear ss (s .holder - 1) (a .1) (u .1) (rw (up (s .holder) (a .0)) (u .0)) in
+      (own (b s) x, others (b s) x ss (a .1) (u .0) (set-marks ss (a .1) (u .1)))
     where
       w : ℕ
-      w = errorSet k d p ss
+      w = setOf b ss
 
       j : ℕ
       j = s .holder - 1
 
-      own : (b : Bool) → w / 2 ^ j % 2 ≡ 0 → (when b (2 ^ j) + w) / 2 ^ j % 2 ≡ when b 1
+      own : (c : Bool) → w / 2 ^ j % 2 ≡ 0 → (when c (2 ^ j) + w) / 2 ^ j % 2 ≡ when c 1
       own true x = ap (λ n. n / 2 ^ j % 2) (add-comm (2 ^ j) w) ∙ ap (λ n. n % 2) (add-div-right w (pow-pos j)) ∙ omega arith
       own false x = rw zero-add x
 
-      others : (b : Bool) → w / 2 ^ j % 2 ≡ 0 → (rs : List Share) → All (λ (r : Share). 1 ≤ r .holder) rs →
-          All (λ (r : Share). s .holder ≢ r .holder) rs → All (λ (r : Share). w / 2 ^ (r .holder - 1) % 2 ≡ when (differs k d p r) 1) rs →
-          All (λ (r : Share). (when b (2 ^ j) + w) / 2 ^ (r .holder - 1) % 2 ≡ when (differs k d p r) 1) rs
-      others b x [] c n h = tt
-      others b x (r ∷ rs) c n h = (one b, others b x rs (c .1) (n .1) (h .1))
+      others : (c : Bool) → w / 2 ^ j % 2 ≡ 0 → (rs : List Share) → All (λ (r : Share). 1 ≤ r .holder) rs →
+          All (λ (r : Share). s .holder ≢ r .holder) rs → Marks w b rs → Marks (when c (2 ^ j) + w) b rs
+      others c x [] l n h = tt
+      others c x (r ∷ rs) l n h = (one c, others c x rs (l .1) (n .1) (h .1))
         where
-          one : (b : Bool) → (when b (2 ^ j) + w) / 2 ^ (r .holder - 1) % 2 ≡ when (differs k d p r) 1
+          one : (c : Bool) → (when c (2 ^ j) + w) / 2 ^ (r .holder - 1) % 2 ≡ when (b r) 1
           one true =
               ap (λ n. n / 2 ^ (r .holder - 1) % 2) (add-comm (2 ^ j) w)
-              ∙ bit-other w j (r .holder - 1) (λ e. n .0 (omega (arith, a .0, c .0))) x ∙ h .0
+              ∙ bit-other w j (r .holder - 1) (λ e. n .0 (omega (arith, a .0, l .0))) x ∙ h .0
           one false = rw zero-add (h .0)
+
+-- the same of the error set
+module _ (k d : ℕ) (p : Polynomial) (ss : List Share) where
+  pub bit-clear : (j : ℕ) → All (λ (s : Share). 1 ≤ s .holder) ss → Different ss → All (λ (s : Share). suc j ≢ s .holder) ss →
+      errorSet k d p ss / 2 ^ j % 2 ≡ 0
+  bit-clear j a u n = rw (errorSet-tally k d p ss) (set-clear (differs k d p) ss j a u n)
+
+  pub ones-errors : All (λ (s : Share). 1 ≤ s .holder) ss → Different ss → ones (errorSet k d p ss) ≡ errors k d p ss
+  ones-errors a u = rw (errorSet-tally k d p ss, errors-tally k d p ss) (set-ones (differs k d p) ss a u)

@@ -1,15 +1,10 @@
--- The list of all polynomials has exactly those of t + 1 coefficients, each an element; what the first in a list that passes a test is.
--- Assumes nothing.
+-- What a codeword is found in: the list of all polynomials has exactly those of t + 1 coefficients, each an element. Assumes nothing.
 use mathlib.Core.Path.{_≡_, refl, sym, _∙_, ap}
-use mathlib.Core.Bool.{Bool, true, false, true≢false}
-use mathlib.Core.Logic.{_⊎_, inl, inr}
-use mathlib.Core.List.{List, [], _∷_, List·Memᴰ, List·Memᴰ·head, List·Memᴰ·tail, List·Memᴰ·not-nil, List·Memᴰ·cases-cons, List·Memᴰ·eq-of-singleton}
-use mathlib.Core.Option.{Option, none, some, Option·none-ne-some, Option·some-injective}
+use mathlib.Core.List.{List, [], _∷_, List·Memᴰ, List·Memᴰ·head, List·Memᴰ·eq-of-singleton}
 use Prim.Native.Nat.{ℕ, zero, suc}
 use native.Mathlib.Nat.{suc-inj, suc-ne-zero}
 use lib.ListN.{length, length-replicate}
 use Rattle.words.specs.Word.{allInWidth}
-use Rattle.words.proofs.Tests.{bool-cases, not-held}
 use Rattle.algebra.specs.Shares.{All}
 use Rattle.algebra.proofs.Shares.{all-map}
 use Rattle.algebra.proofs.Vec.{nil}
@@ -18,7 +13,7 @@ use Rattle.galois.specs.Element.{Element, zeroE, reduce, tuples, elements}
 use Rattle.galois.proofs.Galois.{Zk}
 use Rattle.galois.proofs.Lists.{reduce-width, width-reduce, width-to, zero-of}
 use Rattle.galois.proofs.Elements.{each-all, each-only, listed, listed-only}
-use Rattle.codewords.specs.Codeword.{Polynomial, polynomials, find}
+use Rattle.codewords.specs.Codeword.{Polynomial, polynomials}
 use Rattle.codewords.specs.WellFormed.{IsElement, IsPoly}
 
 -- the elements are the lists that `reduce k` leaves alone
@@ -47,48 +42,6 @@ module _ {A : Type 0} where
       let s = each-only xs (tuples xs n) l h in
       let r = lists-only xs n (s .l) (s .rest) in
       rw (← s .is) (ap suc (r .0), (s .head, r .1))
-
-  -- the first that passes a test is one of them and passes it
-  pub find-some : (t : A → Bool) (xs : List A) (x : A) → find t xs ≡ some x → List·Memᴰ x xs × (t x ≡ true)
-  unfolding find
-  find-some t [] x h = absurd (Option·none-ne-some x h)
-  find-some t (y ∷ xs) x h = go (find-some t xs x) (t y) refl h
-    where
-      go : (find t xs ≡ some x → List·Memᴰ x xs × (t x ≡ true)) → (b : Bool) → t y ≡ b → find t (y ∷ xs) ≡ some x →
-          List·Memᴰ x (y ∷ xs) × (t x ≡ true)
-      go r true e h =
-          let s : x ≡ y = sym (Option·some-injective y x (rw e at h)) in
-          (List·Memᴰ·head s, ap t s ∙ e)
-      go r false e h = let s = r (rw e at h) in (List·Memᴰ·tail (s .0), s .1)
-
-  -- there is none exactly when none passes
-  fails : (t : A → Bool) (xs : List A) (x : A) → List·Memᴰ x xs → t x ≡ true → find t xs ≡ none → ⊥
-  unfolding find
-  fails t [] x m e h = List·Memᴰ·not-nil m
-  fails t (y ∷ xs) x m e h = go (λ n. fails t xs x n e) (List·Memᴰ·cases-cons m)
-    where
-      go : (List·Memᴰ x xs → find t xs ≡ none → ⊥) → (x ≡ y) ⊎ List·Memᴰ x xs → ⊥
-      go r (inl q) = let p : t y ≡ true = rw q at e in Option·none-ne-some y (sym (rw p at h))
-      go r (inr n) = bool-cases (t y) (λ p. Option·none-ne-some y (sym (rw p at h))) (λ p. r n (rw p at h))
-
-  pub find-none : (t : A → Bool) (xs : List A) → find t xs ≡ none → (x : A) → List·Memᴰ x xs → t x ≡ false
-  find-none t xs h x m = not-held (t x) (λ e. fails t xs x m e h)
-
-  pub none-find : (t : A → Bool) (xs : List A) → ((x : A) → List·Memᴰ x xs → t x ≡ false) → find t xs ≡ none
-  none-find t xs h = go (find t xs) refl
-    where
-      go : (o : Option A) → find t xs ≡ o → o ≡ none
-      go none e = refl
-      go (some x) e = let s = find-some t xs x e in absurd (true≢false (sym (s .1) ∙ h x (s .0)))
-
-  -- the only one that passes is found
-  pub find-only : (t : A → Bool) (xs : List A) (x : A) → List·Memᴰ x xs → t x ≡ true →
-      ((y : A) → List·Memᴰ y xs → t y ≡ true → y ≡ x) → find t xs ≡ some x
-  find-only t xs x m e only = go (find t xs) refl
-    where
-      go : (o : Option A) → find t xs ≡ o → o ≡ some x
-      go none h = absurd (true≢false (sym e ∙ find-none t xs h x m))
-      go (some y) h = let s = find-some t xs y h in ap some (only y (s .0) (s .1))
 
 -- a polynomial is listed exactly when it is one
 pub listed-poly : (k d t : ℕ) (p : Polynomial) → IsPoly k d t p → List·Memᴰ p (polynomials k d t)

@@ -1,12 +1,12 @@
 -- The jump: let F be a polynomial that no share differs from below bit v. If bit v of what F leaves of the shares has no codeword, the shares
--- have none (`jump-none`). Otherwise every codeword of the shares differs from all those that differ there: these are dropped, the error
--- bound falls by their number, and the codeword is the same (`jump-with`). If F goes through t + 1 of the shares and nothing is dropped, no
--- share differs from F in bit v (`progress`). Assumes nothing.
+-- have none (`jump-none`). Otherwise every codeword of the shares differs from all those that differ there (`jump-differs`): the law of
+-- dropping shares holds of these (`jump-with`). If F goes through t + 1 of the shares and nothing is dropped, no share differs from F in bit v
+-- (`progress`). Assumes nothing.
 use mathlib.Core.Path.{_≡_, refl, sym, _∙_, ap, ap₂}
 use mathlib.Core.Bool.{Bool, true, false, true≢false}
 use mathlib.Core.List.{List, [], _∷_, map, head-eq-of-cons-eq, tail-eq-of-cons-eq}
 use mathlib.Core.Option.{Option, none, some, Option·map, Option·none-ne-some, Option·some-injective}
-use Prim.Native.Nat.{ℕ, zero, suc, _+_, _*_, _-_, _/_, _%_, _^_, _≤_, _<_}
+use Prim.Native.Nat.{ℕ, zero, suc, _+_, _*_, _-_, _^_, _≤_, _<_}
 use native.Mathlib.Nat.{le-trans, suc-ne-zero}
 use native.Mathlib.Omega.{arith}
 use lib.ListN.{length, length-map, take, replicate}
@@ -24,16 +24,17 @@ use Rattle.galois.proofs.Galois.{GR, low, modulus}
 use Rattle.galois.proofs.Lists.{toList, ofList}
 use Rattle.galois.proofs.Points.{length-point, low-point}
 use Rattle.polynomial.proofs.OverRing.{polyOf}
-use Rattle.codewords.specs.Codeword.{Share, Polynomial, value, when, differs, errors, errorSet, codeword}
+use Rattle.codewords.specs.Codeword.{Share, Polynomial, value, differs, errors, errorSet, codeword}
 use Rattle.codewords.specs.Residue.{residue, bitOf, atBit, AgreeBelow, without}
 use Rattle.codewords.specs.WellFormed.{IsElement, IsPoly, InWidth, Holders}
 use Rattle.codewords.proofs.Value.{shareOf, Rows, rows-of, value-at, right-value, value-right, right-meets, zero-is-poly, zero-value}
 use Rattle.codewords.proofs.Residue.{residue-of, residue-none, agree-reduce, bit-zeros}
-use Rattle.codewords.proofs.Unique.{poly-back, unique, codeword-sound, codeword-none, none-codeword, codeword-complete}
-use Rattle.codewords.proofs.ErrorSet.{bit-differs, ones-errors}
+use Rattle.codewords.proofs.Unique.{poly-back, unique, codeword-sound, codeword-complete}
+use Rattle.codewords.proofs.ErrorSet.{set-ones}
+use Rattle.codewords.proofs.Drop.{marked, drop-enough, drop-with}
 use Rattle.codewords.proofs.Candidate.{poly-of}
 use Rattle.codewords.proofs.Reduction.{reduce-is-poly, reduced-of, low-poly, value-reduce, bitW, bit-to, some-bit, within, Above, eval-bit}
-use Rattle.codewords.proofs.Without.{reword, all-reword, reword-all, holders-reword, tally, errors-tally, errorSet-tally, tally-reword, tally-without, tally-without-le, tally-length, errors-le, none-differs, none-errors, holders-take}
+use Rattle.codewords.proofs.Without.{reword, all-reword, reword-all, holders-reword, Marks, countOf, setOf, errors-tally, errorSet-tally, tally-reword, errors-le, none-differs, none-errors, holders-take}
 pub use Rattle.codewords.proofs.Residue.{residue-element, residue-zero}
 pub use Rattle.codewords.proofs.Without.{holders-without, rising-without, in-width-without}
 
@@ -85,49 +86,24 @@ module _ (d k : ℕ) (F : Polynomial) (v : ℕ) (ss : List Share) (a : Holders d
   abbrev differsAt : Share → Bool
   differsAt s = differs 1 d g (atBit k d F v s)
 
-  -- bit (holder - 1) of the error set is 1 exactly for the shares that differ at bit v
-  pub bit-differs-at : All (λ (s : Share). errorSet 1 d g W / 2 ^ (s .holder - 1) % 2 ≡ when (differs 1 d g (atBit k d F v s)) 1) ss
-  bit-differs-at =
-      let b = holders-reword bitsAt d ss a in
-      reword-all bitsAt (λ s. errorSet 1 d g W / 2 ^ (s .holder - 1) % 2 ≡ when (differs 1 d g s) 1) ss
-      (bit-differs 1 d g W (all-map (λ s x. x .0) W (b .0)) (b .1))
-
-  errors-at : errors 1 d g W ≡ tally (λ i. 1) differsAt ss
+  errors-at : errors 1 d g W ≡ countOf differsAt ss
   errors-at = errors-tally 1 d g W ∙ tally-reword (λ i. 1) bitsAt (differs 1 d g) ss
 
-  errorSet-at : errorSet 1 d g W ≡ tally (λ i. 2 ^ (i - 1)) differsAt ss
+  errorSet-at : errorSet 1 d g W ≡ setOf differsAt ss
   errorSet-at = errorSet-tally 1 d g W ∙ tally-reword (λ i. 2 ^ (i - 1)) bitsAt (differs 1 d g) ss
+
+  -- bit (holder - 1) of the error set is 1 exactly for the shares that differ at bit v
+  pub bit-differs-at : Marks (errorSet 1 d g W) differsAt ss
+  bit-differs-at = rw errorSet-at (marked d ss a differsAt)
 
   -- as many as differ are dropped
   pub ones-at : ones (errorSet 1 d g W) ≡ errors 1 d g W
-  ones-at = let b = holders-reword bitsAt d ss a in ones-errors 1 d g W (all-map (λ s x. x .0) W (b .0)) (b .1)
-
-  pub length-without : length (without (errorSet 1 d g W) ss) + errors 1 d g W ≡ length ss
-  length-without =
-      ap (λ n. length (without (errorSet 1 d g W) ss) + n) errors-at ∙ tally-length differsAt (errorSet 1 d g W) ss bit-differs-at
+  ones-at = rw (errorSet-at, errors-at) (set-ones differsAt ss (all-map (λ s x. x .0) ss (a .0)) (a .1))
 
   -- and there are still enough
   pub enough-without : (t e : ℕ) → suc t + 2 * e ≤ length ss → errors 1 d g W ≤ e →
       suc t + 2 * (e - errors 1 d g W) ≤ length (without (errorSet 1 d g W) ss)
-  enough-without t e m h = omega (arith, length-without)
-
-  -- a polynomial that differs from all that are dropped: its errors are those and its errors among the others
-  module _ (p : Polynomial) (h : All (λ s. differsAt s ≡ true → differs k d p s ≡ true) ss) where
-    pub errors-without : errors k d p ss ≡ errors 1 d g W + errors k d p (without (errorSet 1 d g W) ss)
-    errors-without =
-        errors-tally k d p ss ∙ tally-without (λ i. 1) differsAt (differs k d p) (errorSet 1 d g W) ss bit-differs-at h
-        ∙ sym (ap₂ (λ m n. m + n) errors-at (errors-tally k d p (without (errorSet 1 d g W) ss)))
-
-    pub errorSet-without : errorSet k d p ss ≡ errorSet 1 d g W + errorSet k d p (without (errorSet 1 d g W) ss)
-    errorSet-without =
-        errorSet-tally k d p ss ∙ tally-without (λ i. 2 ^ (i - 1)) differsAt (differs k d p) (errorSet 1 d g W) ss bit-differs-at h
-        ∙ sym (ap₂ (λ m n. m + n) errorSet-at (errorSet-tally k d p (without (errorSet 1 d g W) ss)))
-
-  -- any polynomial has at most so many
-  pub errors-without-le : (p : Polynomial) → errors k d p ss ≤ errors 1 d g W + errors k d p (without (errorSet 1 d g W) ss)
-  errors-without-le p =
-      rw (errors-tally k d p ss, errors-at, errors-tally k d p (without (errorSet 1 d g W) ss))
-      (tally-without-le (λ i. 1) differsAt (differs k d p) (errorSet 1 d g W) ss bit-differs-at)
+  enough-without t e m h = rw (errors-at, errorSet-at) (drop-enough d ss a differsAt t e m (rw (← errors-at) h))
 
 module _ (d : ℕ) (dl : 2 ≤ d) (dh : d ≤ 6) (k t e : ℕ) (ss : List Share) (F : Polynomial) (v : ℕ) (a : Holders d ss) (w : InWidth k d ss)
     (m : suc t + 2 * e ≤ length ss) (i : IsPoly k d t F) where
@@ -226,37 +202,15 @@ module _ (d : ℕ) (dl : 2 ≤ d) (dh : d ≤ 6) (k t e : ℕ) (ss : List Share)
           let same : f ≡ g = Option·some-injective f g (sym (step-codeword p j h) ∙ x) in
           rw (← same) (step-differs p j h)
 
-      -- the shares that do not, within what is left of the bound, have the same codeword
-      pub jump-some : codeword k d t e ss ≡ codeword k d t (e - errors 1 d g Ws) (without (errorSet 1 d g Ws) ss)
-      jump-some = go (codeword k d t e ss) refl
-        where
-          go : (o : Option Polynomial) → codeword k d t e ss ≡ o → o ≡ codeword k d t (e - errors 1 d g Ws) (without (errorSet 1 d g Ws) ss)
-          go none y =
-              sym (none-codeword k d t (e - errors 1 d g Ws) (without (errorSet 1 d g Ws) ss)
-              (λ p j. omega (arith, codeword-none k d t e ss y p j, errors-without-le d k F v ss a g p, codeword-sound 1 d t e Ws g x .1)))
-          go (some p) y =
-              let s = codeword-sound k d t e ss p y in
-              let n = codeword-sound 1 d t e Ws g x .1 in
-              let r = errors-without d k F v ss a g p (jump-differs p (s .0) (s .1)) in
-              sym (codeword-complete d dl dh k t (e - errors 1 d g Ws) (without (errorSet 1 d g Ws) ss) p
-              (holders-without (errorSet 1 d g Ws) d ss a) (enough-without d k F v ss a g t e m n) (s .0) (omega (arith, s .1, n, r)))
-
-      -- the same of what is made of the codeword and its error set
+      -- they are dropped: the codeword of the others, within what is left of the bound, is the same, and so is what is made of it and its error set
       pub jump-with : {X : Type 0} (f : Polynomial → ℕ → X) →
           Option·map (λ p. f p (errorSet k d p ss)) (codeword k d t e ss)
           ≡ Option·map (λ p. f p (errorSet 1 d g Ws + errorSet k d p (without (errorSet 1 d g Ws) ss)))
           (codeword k d t (e - errors 1 d g Ws) (without (errorSet 1 d g Ws) ss))
-      jump-with {X} f =
-          go (codeword k d t e ss) refl
-          ∙ ap (Option·map (λ p. f p (errorSet 1 d g Ws + errorSet k d p (without (errorSet 1 d g Ws) ss)))) jump-some
-        where
-          go : (o : Option Polynomial) → codeword k d t e ss ≡ o →
-              Option·map (λ p. f p (errorSet k d p ss)) o
-              ≡ Option·map (λ p. f p (errorSet 1 d g Ws + errorSet k d p (without (errorSet 1 d g Ws) ss))) o
-          go none y = refl
-          go (some p) y =
-              let s = codeword-sound k d t e ss p y in
-              ap (λ n. some (f p n)) (errorSet-without d k F v ss a g p (jump-differs p (s .0) (s .1)))
+      jump-with f =
+          let n : errors 1 d g Ws ≤ e = codeword-sound 1 d t e Ws g x .1 in
+          rw (errors-at d k F v ss a g, errorSet-at d k F v ss a g)
+          (drop-with d ss a (differsAt d k F v ss a g) t e m (rw (← errors-at d k F v ss a g) n) k jump-differs dl dh f)
 
   -- where F goes through the first t + 1 shares, bit v of what it leaves of them has the codeword zero
   still : (s : Share) → IsElement k d (s .words) → differs k d F s ≡ false → differs 1 d (replicate (suc t) (zeroE d)) (atBit k d F v s) ≡ false

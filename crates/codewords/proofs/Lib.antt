@@ -1,8 +1,10 @@
 pub mod Candidate
+pub mod Drop
 pub mod ErrorSet
 pub mod Find
 pub mod Jump
 pub mod Linear
+pub mod Opening
 pub mod Reduction
 pub mod Residue
 pub mod Unique

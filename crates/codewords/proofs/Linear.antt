@@ -1,41 +1,25 @@
--- The value is linear in the coefficients: sums and multiples of dealt shares are the shares of the sum or the multiple of the polynomials
--- (`dealt-sum`, `dealt-multiple`). And t + 1 + 2e dealt shares or more, of which up to e are changed in any way, have the dealing
--- polynomial for their codeword (`dealt-codeword`). Assumes nothing.
+-- The value is linear in the coefficients (`value-sum`, `value-multiple`): the sum of dealt shares is the share of the sum of the polynomials
+-- (`dealt-sum`). Assumes nothing.
 use mathlib.Core.Path.{_≡_, refl, sym, _∙_, ap, ap₂}
-use mathlib.Core.Bool.{not}
-use mathlib.Core.List.{List, [], _∷_, map, head-eq-of-cons-eq, tail-eq-of-cons-eq}
-use mathlib.Core.Option.{some}
-use Prim.Native.Nat.{ℕ, suc, _+_, _*_, _≤_}
+use mathlib.Core.List.{[], _∷_}
+use Prim.Native.Nat.{ℕ, suc, _≤_}
 use native.Mathlib.Nat.{suc-inj, suc-ne-zero}
-use lib.ListN.{length, length-map}
+use lib.ListN.{length, getD, length-map}
 use Rattle.algebra.specs.Poly.{eval}
 use Rattle.algebra.specs.Shares.{All}
 use Rattle.algebra.proofs.Shares.{all-map}
 use Rattle.algebra.proofs.Poly.{padd, scale, eval-padd, eval-scale}
-use Rattle.galois.specs.Element.{Element, sum, product, lower, point, same}
+use Rattle.galois.specs.Element.{Element, sum, product, lower, point}
 use Rattle.galois.proofs.Galois.{GR}
 use Rattle.galois.proofs.Table.{length-lower}
 use Rattle.galois.proofs.Lists.{toList, ofList, length-toList, of-to, width-to, sum-of, sum-to, product-of}
-use Rattle.galois.proofs.Elements.{same-refl}
 use Rattle.galois.proofs.Points.{length-point}
 use Rattle.polynomial.proofs.OverRing.{polyOf, value-of}
-use Rattle.codewords.specs.Codeword.{Share, Polynomial, value, when, differs, errors, codeword}
-use Rattle.codewords.specs.WellFormed.{IsElement, IsPoly, Holders}
+use Rattle.codewords.specs.Codeword.{Polynomial, value}
+use Rattle.codewords.specs.WellFormed.{IsElement, IsPoly}
 use Rattle.codewords.proofs.Value.{Rows, rows-of}
-use Rattle.codewords.proofs.Unique.{codeword-complete}
-
--- the sum of two polynomials of one length, and a polynomial times an element, coefficient by coefficient
-unfoldable pub sums : ℕ → Polynomial → Polynomial → Polynomial
-sums k [] q = []
-sums k (a ∷ p) [] = []
-sums k (a ∷ p) (b ∷ q) = sum k a b ∷ sums k p q
-
-abbrev pub multiple : ℕ → ℕ → Element → Polynomial → Polynomial
-multiple k d c = map (product k (lower d) c)
-
--- the share of a holder, dealt from p
-abbrev pub dealt : ℕ → ℕ → Polynomial → ℕ → Share
-dealt k d p h = record { holder = h; words = value k d p (point d h) }
+pub use Rattle.codewords.specs.Linear.{multiple, dealt}
+unfoldable pub use Rattle.codewords.specs.Linear.{sums}
 
 module _ (k : ℕ) where
   length-sums : (p q : Polynomial) → length p ≡ length q → length (sums k p q) ≡ length p
@@ -121,37 +105,13 @@ module _ (d : ℕ) (dl : 2 ≤ d) (dh : d ≤ 6) (k : ℕ) where
   dealt-sum t p q x y h =
       value-sum p q (rows-of k d t p x) (rows-of k d t q y) (x .0 ∙ sym (y .0)) (point d h) (length-point d h)
 
-  pub dealt-multiple : (t : ℕ) (c : Element) → length c ≡ d → (p : Polynomial) → IsPoly k d t p → (h : ℕ) →
-      dealt k d (multiple k d c p) h .words ≡ product k (lower d) c (dealt k d p h .words)
-  dealt-multiple t c l p x h = value-multiple c l p (rows-of k d t p x) (point d h) (length-point d h)
+-- free terms
+pub sums-free : (k t : ℕ) (q r : Polynomial) → length q ≡ suc t → length r ≡ suc t → getD (sums k q r) 0 [] ≡ sum k (getD q 0 []) (getD r 0 [])
+unfolding sums
+sums-free k t [] r l m = absurd (suc-ne-zero t (sym l))
+sums-free k t (x ∷ q) [] l m = absurd (suc-ne-zero t (sym m))
+sums-free k t (x ∷ q) (y ∷ r) l m = refl
 
--- how many shares of the second list hold other words than those of the first in the same place
-unfoldable pub changed : List Share → List Share → ℕ
-unfolding same
-changed [] rs = 0
-changed (s ∷ ss) [] = 0
-changed (s ∷ ss) (r ∷ rs) = when (not (same (r .words) (s .words))) 1 + changed ss rs
-
--- no dealt share differs
-pub errors-dealt : (k d : ℕ) (p : Polynomial) (hs : List ℕ) → errors k d p (map (dealt k d p) hs) ≡ 0
-unfolding errors differs
-errors-dealt k d p [] = refl
-errors-dealt k d p (h ∷ hs) = ap₂ (λ b n. when (not b) 1 + n) (same-refl (value k d p (point d h))) (errors-dealt k d p hs)
-
--- and of changed ones those that are changed
-pub errors-changed : (k d : ℕ) (p : Polynomial) (hs : List ℕ) (rs : List Share) → map (λ (r : Share). r .holder) rs ≡ hs →
-    errors k d p rs ≡ changed (map (dealt k d p) hs) rs
-unfolding errors differs changed
-errors-changed k d p [] [] e = refl
-errors-changed k d p [] (r ∷ rs) e = absurd (suc-ne-zero _ (ap length e))
-errors-changed k d p (h ∷ hs) [] e = absurd (suc-ne-zero _ (sym (ap length e)))
-errors-changed k d p (h ∷ hs) (r ∷ rs) e =
-    ap₂ (λ i n. when (not (same (r .words) (value k d p (point d i)))) 1 + n) (head-eq-of-cons-eq e)
-    (errors-changed k d p hs rs (tail-eq-of-cons-eq e))
-
--- enough dealt shares, up to e of them changed, have the dealing polynomial for their codeword
-pub dealt-codeword : (d : ℕ) → 2 ≤ d → d ≤ 6 → (k t e : ℕ) (p : Polynomial) → IsPoly k d t p → (hs : List ℕ) (rs : List Share) →
-    map (λ (r : Share). r .holder) rs ≡ hs → Holders d rs → suc t + 2 * e ≤ length rs → changed (map (dealt k d p) hs) rs ≤ e →
-    codeword k d t e rs ≡ some p
-dealt-codeword d dl dh k t e p i hs rs h a m c =
-    codeword-complete d dl dh k t e rs p a m i (rw (errors-changed k d p hs rs h) c)
+pub multiple-free : (k d t : ℕ) (c : Element) (q : Polynomial) → length q ≡ suc t → getD (multiple k d c q) 0 [] ≡ product k (lower d) c (getD q 0 [])
+multiple-free k d t c [] l = absurd (suc-ne-zero t (sym l))
+multiple-free k d t c (x ∷ q) l = refl

@@ -17,12 +17,13 @@ use Rattle.algebra.proofs.Shares as A
 use Rattle.galois.specs.Element.{Element, zeroE, reduce}
 use Rattle.galois.proofs.Galois.{GR}
 use Rattle.galois.proofs.Lists.{toList, ofList, of-to, to-of}
+use Rattle.galois.proofs.Find.{find-some, find-none, none-find, find-only}
 use Rattle.galois.proofs.Points.{points-apart}
 use Rattle.galois.proofs.Instance.{ringOf}
 use Rattle.polynomial.proofs.OverRing.{polyOf}
 use Rattle.codewords.specs.Codeword.{Share, Polynomial, errors, polynomials, codeword}
 use Rattle.codewords.specs.WellFormed.{IsElement, IsPoly, Holders}
-use Rattle.codewords.proofs.Find.{fixed, listed-poly, poly-listed, find-some, find-none, none-find, find-only}
+use Rattle.codewords.proofs.Find.{fixed, listed-poly, poly-listed}
 use Rattle.codewords.proofs.Value.{shareOf, rows-of, count-errors}
 
 -- a polynomial is known by its elements of the ring

@@ -99,12 +99,19 @@ unfoldable pub tally : (ℕ → ℕ) → (Share → Bool) → List Share → ℕ
 tally f b [] = 0
 tally f b (s ∷ ss) = when (b s) (f (s .holder)) + tally f b ss
 
-pub errors-tally : (k d : ℕ) (p : Polynomial) (ss : List Share) → errors k d p ss ≡ tally (λ i. 1) (differs k d p) ss
+-- how many pass, and the set of their holders
+abbrev pub countOf : (Share → Bool) → List Share → ℕ
+countOf = tally (λ i. 1)
+
+abbrev pub setOf : (Share → Bool) → List Share → ℕ
+setOf = tally (λ i. 2 ^ (i - 1))
+
+pub errors-tally : (k d : ℕ) (p : Polynomial) (ss : List Share) → errors k d p ss ≡ countOf (differs k d p) ss
 unfolding errors tally
 errors-tally k d p [] = refl
 errors-tally k d p (s ∷ ss) = ap (λ n. when (differs k d p s) 1 + n) (errors-tally k d p ss)
 
-pub errorSet-tally : (k d : ℕ) (p : Polynomial) (ss : List Share) → errorSet k d p ss ≡ tally (λ i. 2 ^ (i - 1)) (differs k d p) ss
+pub errorSet-tally : (k d : ℕ) (p : Polynomial) (ss : List Share) → errorSet k d p ss ≡ setOf (differs k d p) ss
 unfolding errorSet tally
 errorSet-tally k d p [] = refl
 errorSet-tally k d p (s ∷ ss) = ap (λ n. when (differs k d p s) (2 ^ (s .holder - 1)) + n) (errorSet-tally k d p ss)
@@ -173,13 +180,13 @@ module _ (f : ℕ → ℕ) where
 
 -- as many are left out as pass
 pub tally-length : (b : Share → Bool) (w : ℕ) (ss : List Share) → Marks w b ss →
-    length (without w ss) + tally (λ i. 1) b ss ≡ length ss
+    length (without w ss) + countOf b ss ≡ length ss
 unfolding tally without
 tally-length b w [] h = refl
 tally-length b w (s ∷ ss) h = go (b s) (h .0) (tally-length b w ss (h .1))
   where
-    go : (x : Bool) → w / 2 ^ (s .holder - 1) % 2 ≡ when x 1 → length (without w ss) + tally (λ i. 1) b ss ≡ length ss →
-        length (without w (s ∷ ss)) + (when x 1 + tally (λ i. 1) b ss) ≡ suc (length ss)
+    go : (x : Bool) → w / 2 ^ (s .holder - 1) % 2 ≡ when x 1 → length (without w ss) + countOf b ss ≡ length ss →
+        length (without w (s ∷ ss)) + (when x 1 + countOf b ss) ≡ suc (length ss)
     go true e l = rw (without-drops w s ss e) (omega arith)
     go false e l = rw (without-keeps w s ss e) (omega arith)
 

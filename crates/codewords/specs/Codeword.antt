@@ -1,11 +1,11 @@
 -- Polynomials, shares and which of them differ, paper 01, "Ring, points, shares"; the codeword within an error bound, if there is one,
 -- without any algorithm. Assumes nothing.
 use Prim.Native.Nat.{ℕ, suc, _+_, _-_, _^_}
-use mathlib.Core.Bool.{Bool, true, false, not}
+use mathlib.Core.Bool.{Bool, cond, not}
 use mathlib.Core.List.{List, [], _∷_}
-use mathlib.Core.Option.{Option, none, some}
+use mathlib.Core.Option.{Option}
 use lib.Dec.{leb}
-use Rattle.galois.specs.Element.{Element, point, same, elements, tuples}
+use Rattle.galois.specs.Element.{Element, point, same, elements, tuples, find}
 pub use Rattle.polynomial.specs.Polynomial.{Polynomial}
 unfoldable pub use Rattle.polynomial.specs.Polynomial.{value}
 
@@ -20,8 +20,7 @@ unfolding value same point
 differs k d p s = not (same (s .words) (value k d p (point d (s .holder))))
 
 abbrev pub when : Bool → ℕ → ℕ
-when true n = n
-when false n = 0
+when b n = cond b n 0
 
 -- how many of the shares differ
 unfoldable pub errors : ℕ → ℕ → Polynomial → List Share → ℕ
@@ -39,15 +38,6 @@ errorSet k d p (s ∷ ss) = when (differs k d p s) (2 ^ (s .holder - 1)) + error
 unfoldable pub polynomials : ℕ → ℕ → ℕ → List Polynomial
 unfolding elements tuples
 polynomials k d t = tuples (elements k d) (suc t)
-
--- the first in a list that passes a test
-unfoldable pub find : {A : Type 0} → (A → Bool) → List A → Option A
-find {A} t [] = none
-find {A} t (x ∷ xs) = pick (t x) (find t xs)
-  where
-    pick : Bool → Option A → Option A
-    pick true o = some x
-    pick false o = o
 
 -- the polynomial of degree at most t that differs from e shares or fewer
 unfoldable pub codeword : ℕ → ℕ → ℕ → ℕ → List Share → Option Polynomial

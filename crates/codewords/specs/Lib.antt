@@ -1,3 +1,6 @@
 pub mod Codeword
+pub mod Demand
+pub mod Linear
+pub mod Opening
 pub mod Residue
 pub mod WellFormed

@@ -1,8 +1,8 @@
--- What a polynomial leaves of shares, bit by bit, paper 01: "at each of k levels a decoder over the field treats the lowest bits of what
--- remains". Assumes nothing.
+-- Internal: what a polynomial leaves of shares, bit by bit, paper 01: "at each of k levels a decoder over the field treats the lowest bits
+-- of what remains". Assumes nothing.
 use Prim.Native.Nat.{ℕ, _-_, _/_, _%_, _^_}
 use mathlib.Core.Path.{_≡_}
-use mathlib.Core.Bool.{Bool, true, false}
+use mathlib.Core.Bool.{cond}
 use mathlib.Core.List.{List, [], _∷_}
 use lib.Dec.{eqb}
 use Rattle.algebra.specs.Shares.{All}
@@ -37,8 +37,4 @@ AgreeBelow k d p v = All (λ (s : Share). All (λ w. w % 2 ^ v ≡ 0) (residue k
 -- "Shares found wrong at one level are dropped at the next": those whose holders are not in the set w stay
 unfoldable pub without : ℕ → List Share → List Share
 without w [] = []
-without w (s ∷ ss) = keep (eqb (w / 2 ^ (s .holder - 1) % 2) 0) (without w ss)
-  where
-    keep : Bool → List Share → List Share
-    keep true rs = s ∷ rs
-    keep false rs = rs
+without w (s ∷ ss) = cond (eqb (w / 2 ^ (s .holder - 1) % 2) 0) (s ∷ without w ss) (without w ss)
