@@ -5,14 +5,14 @@ use mathlib.Core.Path.{_≡_, refl, sym, _∙_, ap, ap₂}
 use mathlib.Core.List.{List, [], _∷_, map}
 use Prim.Native.Nat.{ℕ, zero, suc, _+_, _-_, _≤_, _<_}
 use native.Mathlib.Omega.{arith}
-use lib.ListN.{length, take, getD, replicate, length-map, length-replicate}
-use lib.Seq.{length-take-le, take-take, getD-take}
+use lib.ListN.{length, take, replicate, length-map, length-replicate}
+use lib.Seq.{length-take-le, take-take}
 use Rattle.algebra.specs.Poly.{eval}
 use Rattle.algebra.specs.Shares.{misses}
 use Rattle.algebra.proofs.Poly.{Low, Same, low-length, eval-same, same-take}
 use Rattle.algebra.proofs.Shares.{all-map, count-none}
 use Rattle.algebra.proofs.Interpolation as I
-use Rattle.galois.specs.Element.{point, held, reduce}
+use Rattle.galois.specs.Element.{point, reduce}
 use Rattle.galois.proofs.Galois.{GR}
 use Rattle.galois.proofs.Lists.{toList, ofList, of-to}
 use Rattle.galois.proofs.Points.{length-point}
@@ -83,15 +83,11 @@ module _ (k d : ℕ) (h : 1 ≤ k) (dl : 2 ≤ d) (dh : d ≤ 6) where
         room : length (shares ss) + 2 ≤ length m
         room = omega (arith, es, g .lm)
 
-  -- the first n rows of elements, and the first of all
+  -- the first n rows of elements
   coefs-exact : (n : ℕ) (us : List (GR d k .E)) → coefs d n (map (row k d) us) ≡ map toList (take n us)
   coefs-exact zero us = refl
   coefs-exact (suc n) [] = refl
   coefs-exact (suc n) (u ∷ us) = ap₂ _∷_ (take-row k d u) (coefs-exact n us)
-
-  free-exact : (n : ℕ) (us : List (GR d k .E)) → 0 < length us → getD (map (row k d) us) 0 [] ≡ held d (getD (map toList (take (suc n) us)) 0 [])
-  free-exact n [] l = absurd (omega arith)
-  free-exact n (u ∷ us) l = refl
 
   poly-to-of : (us : List (GR d k .E)) → polyOf k d (map toList us) ≡ us
   poly-to-of [] = refl
@@ -121,11 +117,6 @@ module _ (k d : ℕ) (h : 1 ≤ k) (dl : 2 ≤ d) (dh : d ≤ 6) where
     is-poly : IsPoly k d t (coefs d (suc t) q)
     is-poly = rw is-coefs (poly-of k d t (take (suc t) us) lt)
 
-    is-free : getD q 0 [] ≡ held d (getD (coefs d (suc t) q) 0 [])
-    is-free =
-        ap (λ (r : Rows). getD r 0 []) (sym (g .xq))
-        ∙ free-exact t us (omega (arith, lu)) ∙ ap (λ (r : Rows). held d (getD r 0 [])) (sym is-coefs)
-
     value-us : (x : GR d k .E) → eval (GR d k) (polyOf k d (coefs d (suc t) q)) x ≡ eval (GR d k) (I.interp (ringOf d k) (shares ss)) x
     value-us x =
         ap (λ p. eval (GR d k) p x) (ap (polyOf k d) is-coefs ∙ poly-to-of (take (suc t) us))
@@ -143,9 +134,7 @@ module _ (k d : ℕ) (h : 1 ≤ k) (dl : 2 ≤ d) (dh : d ≤ 6) where
     through : (r : Rows) → take (suc t) r ≡ take (suc t) q → Through k d t ss r
     through r e =
         let c : coefs d (suc t) r ≡ coefs d (suc t) q = ap (map (take d)) e in
-        let f : getD r 0 [] ≡ getD q 0 [] =
-        sym (getD-take (suc t) r 0 [] (omega arith)) ∙ ap (λ (p : Rows). getD p 0 []) e ∙ getD-take (suc t) q 0 [] (omega arith) in
-        rw (c, f) (is-poly, is-free, no-error)
+        rw c (is-poly, no-error)
 
   -- the loop, on arrays of which only the first t + 2 rows and the lowest k bits count
   module _ (t : ℕ) (hs : List ℕ) (ys : Rows) where

@@ -21,7 +21,7 @@ use Rattle.codewords.proofs.Residue.{residue-element}
 use Rattle.codewords.proofs.Without.{all-reword, holders-reword}
 use Rattle.level.specs.Shares.{shareAt, sharesOf, Sized, residueRows}
 use Rattle.level.proofs.Shares.{sized-at}
-use Rattle.level.proofs.Rests.{rest-row, rest-shares, rest-last, rest-length}
+use Rattle.level.proofs.ResidueRows.{rest-row, rest-shares, rest-last, rest-length}
 use Rattle.decoder.specs.Residues.{Through, bitsOfAll}
 use Rattle.decoder.proofs.Arrays.{reword-of}
 use Rattle.decoder.proofs.Compared.{leftSix, left-set, left-bits}
@@ -60,7 +60,7 @@ module _ (k d t m : ℕ) (dl : 2 ≤ d) (dh : d ≤ 6) (hs : List ℕ) (ys q old
   -- the rows, as shares
   row-at : (i : ℕ) → i < m → getD r i [] ≡ held d (residue k d P (shareAt d hs ys i))
   row-at i h =
-      rest-row k d P (suc t) m hs ys old tm mo r er dl dh t (th .0) words fo (th .2) i h
+      rest-row k d P (suc t) m hs ys old tm mo r er dl dh t (th .0) words fo (th .1) i h
 
   long-row : (i : ℕ) → i < m → length (held d (residue k d P (shareAt d hs ys i))) ≡ 6
   long-row i h =
@@ -80,7 +80,7 @@ module _ (k d t m : ℕ) (dl : 2 ≤ d) (dh : d ≤ 6) (hs : List ℕ) (ys q old
       six i h (no l) = let b : i < m = omega arith in ap length (row-at i b) ∙ long-row i b
 
   is-left : sharesOf d m hs r ≡ map (left k d P) ss
-  is-left = rest-shares k d P (suc t) m hs ys old tm mo r er dl dh t (th .0) words fo (th .2)
+  is-left = rest-shares k d P (suc t) m hs ys old tm mo r er dl dh t (th .0) words fo (th .1)
 
   holders-in-six : Holders 6 ss
   holders-in-six =

@@ -1,7 +1,7 @@
--- What one level of the search gives, by its cases (`by-level`); and that the parts which the code computes come to it (`found-few`,
--- `found-field`). Assumes nothing.
+-- What one level of the search gives, by its cases (`by-level`); that the parts which the code computes come to it (`found-few`,
+-- `found-field`); and its number (`told`). Assumes nothing.
 use mathlib.Core.Path.{_≡_, refl, _∙_, ap}
-use mathlib.Core.Bool.{Bool, true, false}
+use mathlib.Core.Bool.{Bool, true, false, cond}
 use mathlib.Core.List.{List, [], _∷_, map}
 use mathlib.Core.Option.{Option, none, some}
 use Prim.Native.Nat.{ℕ, zero, suc, _≤_, _<_}
@@ -13,6 +13,7 @@ use Rattle.algebra.specs.Shares.{All}
 use Rattle.algebra.proofs.Shares.{all-map}
 use Rattle.polynomial.specs.Polynomial.{Polynomial}
 use Rattle.codewords.specs.Codeword.{Share, errors, errorSet, codeword}
+use Rattle.codewords.specs.Opening.{faultOf, fromCodeword}
 use Rattle.codewords.specs.Residue.{residue, left, bitShare, atBit}
 use Rattle.codewords.specs.WellFormed.{IsElement, IsPoly, InWidth, Holders}
 use Rattle.codewords.proofs.ErrorSet.{ones-errors}
@@ -20,7 +21,7 @@ use Rattle.codewords.proofs.Residue.{residue-element}
 use Rattle.codewords.proofs.Value.{rows-of}
 use Rattle.level.specs.Level.{levelOf}
 use Rattle.level.specs.declared.Level.{Level}
-use Rattle.decoder.specs.Found.{lowestBit, named, levelFound}
+use Rattle.decoder.specs.Found.{lowestBit, named, levelFound, foundFault, roundFault}
 use Rattle.decoder.specs.Residues.{bitsOfAll}
 use Rattle.decoder.specs.declared.Found.{Found}
 use Rattle.decoder.specs.declared.Found.the-variants.{Wrong, Nothing}
@@ -80,3 +81,18 @@ module _ (k d t e : ℕ) (p : Polynomial) (ss : List Share) where
   unfolding levelFound
   found-field h rs er bits eb got el =
       ap named (rw (er, eb, bits-left k d p (lowestBit k d p ss) ss) at el) ∙ rw (lt-leb (errors k d p ss) e h)
+
+  -- the number of what it gives
+  fault-of : (o : Option Polynomial) → foundFault (named (levelOf d W o)) ≡ faultOf (fromCodeword o)
+  unfolding foundFault levelOf
+  fault-of none = refl
+  fault-of (some g) = refl
+
+  pub told : (r : Found) → r ≡ levelFound k d t e p ss → (r ≡ levelFound k d t e p ss) × (foundFault r ≡ roundFault k d t e p ss)
+  unfolding levelFound foundFault roundFault
+  told r x = (x, ap foundFault x ∙ go (leb (errors k d p ss) e))
+    where
+      go : (b : Bool) → foundFault (cond b (Wrong (errorSet k d p ss) true) (named (levelOf d W (codeword 1 d t e W))))
+          ≡ cond b 0 (faultOf (fromCodeword (codeword 1 d t e W)))
+      go true = refl
+      go false = fault-of (codeword 1 d t e W)

@@ -6,4 +6,4 @@ pub mod Left
 pub mod LevelFound
 pub mod Lowest
 pub mod Rows
-pub mod Sought
+pub mod Rounds

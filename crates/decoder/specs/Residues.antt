@@ -1,18 +1,16 @@
--- What the search looks at: the polynomial through t + 1 shares, and the bits of shares. Assumes nothing.
+-- Internal: what the search looks at: the polynomial through t + 1 shares, and the bits of shares. Assumes nothing.
 use mathlib.Core.Path.{_≡_}
 use mathlib.Core.List.{List, [], _∷_}
 use Prim.Native.Nat.{ℕ, suc}
 use lib.Bits.{bitOr}
-use lib.ListN.{getD}
-use Rattle.galois.specs.Element.{Element, held}
+use Rattle.galois.specs.Element.{Element}
 use Rattle.polynomial.specs.Rows.{Rows, coefs}
 use Rattle.codewords.specs.Codeword.{Share, errors}
 use Rattle.codewords.specs.WellFormed.{IsPoly}
 
--- the array r holds a polynomial of degree at most t, its free term with zeros after the d words, and no share of ss differs from it
+-- the array r holds a polynomial of degree at most t, and no share of ss differs from it
 abbrev pub Through : ℕ → ℕ → ℕ → List Share → Rows → Type 0
-Through k d t ss r =
-    IsPoly k d t (coefs d (suc t) r) × (getD r 0 [] ≡ held d (getD (coefs d (suc t) r) 0 [])) × (errors k d (coefs d (suc t) r) ss ≡ 0)
+Through k d t ss r = IsPoly k d t (coefs d (suc t) r) × (errors k d (coefs d (suc t) r) ss ≡ 0)
 
 -- the bits that any word of an element has
 unfoldable pub bitsOf : Element → ℕ

@@ -4,17 +4,19 @@
 // the search goes on among the others with as much less to allow.
 ghost use mathlib.Core.Path.{_≡_};
 ghost use mathlib.Core.Bool.{true};
-ghost use mathlib.Core.List.{[]};
+ghost use mathlib.Core.List.{[], _∷_};
 ghost use Prim.Native.Nat.{ℕ, suc, _+_, _*_, _≤_, _<_};
 ghost use lib.ListN.{length, take, getD, replicate};
 ghost use Rattle.polynomial.specs.Rows.{Shaped, coefs, reduceRows};
 ghost use Rattle.codewords.specs.Codeword.{errorSet, codeword};
+ghost use Rattle.codewords.specs.Opening.{wrongOf, fromCodeword, answerTo, openingIn};
 ghost use Rattle.codewords.specs.Residue.{without};
 ghost use Rattle.codewords.specs.WellFormed.{InWidth, Rising, Holders};
 ghost use Rattle.level.specs.Shares.{sharesOf, Sized};
 ghost use Rattle.words.specs.Params.{paramsOk};
-ghost use Rattle.decoder.specs.Decoded.{Ordered, answer, storedSecret};
-ghost use Rattle.decoder.specs.Found.{levelFound};
+ghost use Rattle.words.specs.Refusal.{kept};
+ghost use Rattle.decoder.specs.Decoded.{Ordered};
+ghost use Rattle.decoder.specs.Found.{levelFound, foundFault, roundFault};
 ghost use Rattle.decoder.specs.Residues.{Through, bitsOfAll};
 use level::Level;
 
@@ -142,7 +144,8 @@ fn decode_level(
         × Holders d (sharesOf d m (now hs) (now ys)) × InWidth k d (sharesOf d m (now hs) (now ys))
         × Through k d t (sharesOf d (suc t) (now hs) (now ys)) p
         × Shaped (now rest) × (take (suc t) (now rest) ≡ replicate (suc t) (replicate 6 0)) ⌝ }
-    ensures found { λ r. ⌜ r ≡ levelFound k d t e (coefs d (suc t) p) (sharesOf d m (now (hs .entry)) (now (ys .entry))) ⌝ }
+    ensures found { λ r. ⌜ (r ≡ levelFound k d t e (coefs d (suc t) p) (sharesOf d m (now (hs .entry)) (now (ys .entry))))
+        × (foundFault r ≡ roundFault k d t e (coefs d (suc t) p) (sharesOf d m (now (hs .entry)) (now (ys .entry)))) ⌝ }
     ensures rest { λ _. ⌜ Shaped (now (rest .exit)) ⌝ }
 {
     level::residues(k, d, p, t, m, hs, ys, rest);
@@ -158,7 +161,15 @@ fn decode_level(
     Found::Wrong(w, false)
 }
 
-// The search: `count` shares are still in, of which `bound` may differ; those of the holders in `wrong` are out.
+// What shares open to: the fault 5, 6 or 0, and the set of the wrong holders, bit i - 1 for holder i, which is empty where there is a fault.
+// Where there is none the polynomial is in lent rows.
+pub struct Opened {
+    pub fault: u8,
+    pub wrong: u64,
+}
+
+// The search: `count` shares are still in, of which `bound` may differ; those of the holders in `wrong` are out. The rows are room
+// for interpolation, and then for what the polynomial leaves of the shares; at the end they hold the codeword.
 fn search(
     k: u64,
     d: usize,
@@ -167,32 +178,35 @@ fn search(
     hs: &mut [u64; 63],
     ys: &mut [[u64; 6]; 63],
     e: u64,
-    out: &mut [u64; 6],
-) -> Level
+    rows: &mut [[u64; 6]; 64],
+) -> Opened
     requires { ⌜ ((1 ≤ k) × (k ≤ 64)) × ((2 ≤ d) × (d ≤ 6)) × (t ≤ 62) × (m ≤ 63) × (suc t + 2 * e ≤ m)
         × Holders d (sharesOf d m (now hs) (now ys)) × Rising (sharesOf d m (now hs) (now ys)) × InWidth k d (sharesOf d m (now hs) (now ys))
-        × (length (now hs) ≡ 63) × (length (now ys) ≡ 63) ⌝ }
-    ensures level { λ r. ⌜ r ≡ answer k d (sharesOf d m (now (hs .entry)) (now (ys .entry)))
-        (codeword k d t e (sharesOf d m (now (hs .entry)) (now (ys .entry)))) ⌝ }
-    ensures out { λ _. ⌜ now (out .exit) ≡ storedSecret d (codeword k d t e (sharesOf d m (now (hs .entry)) (now (ys .entry)))) (now (out .entry)) ⌝ }
+        × (length (now hs) ≡ 63) × (length (now ys) ≡ 63) × Shaped (now rows) ⌝ }
+    ensures opening { λ r. ⌜ openingIn d t (r .fault) (now (rows .exit))
+        ≡ fromCodeword (codeword k d t e (sharesOf d m (now (hs .entry)) (now (ys .entry)))) ⌝ }
+    ensures wrong { λ r. ⌜ r .wrong ≡ wrongOf k d (sharesOf d m (now (hs .entry)) (now (ys .entry)))
+        (fromCodeword (codeword k d t e (sharesOf d m (now (hs .entry)) (now (ys .entry))))) ⌝ }
+    ensures shaped { λ _. ⌜ Shaped (now (rows .exit)) ⌝ }
 {
     let mut wrong: u64 = 0;
     let mut bound = e;
     let mut count = m;
     let mut q = [[0u64; 6]; 64];
-    // Room for interpolation, and then for what the polynomial leaves of the shares.
-    let mut room = [[0u64; 6]; 64];
     loop {
-        interpolate(k, d, t, hs, ys, &mut q, &mut room);
-        clear_rows(t + 1, &mut room);
-        let got = decode_level(k, d, q, t, count, hs, ys, &mut room, bound);
+        interpolate(k, d, t, hs, ys, &mut q, rows);
+        clear_rows(t + 1, rows);
+        let got = decode_level(k, d, q, t, count, hs, ys, rows, bound);
         let Found::Wrong(w, all) = got else {
-            return Level::Nothing;
+            return Opened {
+                fault: words::NO_CODEWORD,
+                wrong: 0,
+            };
         };
         wrong += w;
         if all {
-            *out = q[0];
-            return Level::Codeword(wrong);
+            *rows = q;
+            return Opened { fault: 0, wrong };
         }
         let errors = u64::count_ones(w) as u64;
         bound -= errors;
@@ -200,22 +214,58 @@ fn search(
     }
 }
 
-// The codeword within e errors of m shares under rising holders: the set of the holders whose shares differ from it, and its free term in
-// `out`; or that there is none, and `out` as it was. The arrays of holders and shares are room to work in: they are not the same after it.
+// What m shares under rising holders open to with the error bound e, of any size: the polynomial in `rows`, if there is no fault. The arrays
+// of holders and shares are room to work in: nothing is promised of them after.
 pub fn decode(
     p: words::Params,
     m: usize,
     holders: &mut [u64; 63],
     shares: &mut [[u64; 6]; 63],
     e: u64,
-    out: &mut [u64; 6],
-) -> Level
-    requires { ⌜ (paramsOk p ≡ true) × (m ≤ 63) × (suc (p .t) + 2 * e ≤ m) × Ordered (p .n) (sharesOf (p .d) m (now holders) (now shares))
-        × InWidth (p .k) (p .d) (sharesOf (p .d) m (now holders) (now shares)) × (length (now holders) ≡ 63) × (length (now shares) ≡ 63) ⌝ }
-    ensures level { λ r. ⌜ r ≡ answer (p .k) (p .d) (sharesOf (p .d) m (now (holders .entry)) (now (shares .entry)))
-        (codeword (p .k) (p .d) (p .t) e (sharesOf (p .d) m (now (holders .entry)) (now (shares .entry)))) ⌝ }
-    ensures out { λ _. ⌜ now (out .exit) ≡ storedSecret (p .d) (codeword (p .k) (p .d) (p .t) e
-        (sharesOf (p .d) m (now (holders .entry)) (now (shares .entry)))) (now (out .entry)) ⌝ }
+    rows: &mut [[u64; 6]; 64],
+) -> Opened
+    requires { ⌜ (paramsOk p ≡ true) × (m ≤ 63) × Ordered (p .n) (sharesOf (p .d) m (now holders) (now shares))
+        × InWidth (p .k) (p .d) (sharesOf (p .d) m (now holders) (now shares)) × (length (now holders) ≡ 63) × (length (now shares) ≡ 63)
+        × Shaped (now rows) ⌝ }
+    ensures opening { λ r. ⌜ openingIn (p .d) (p .t) (r .fault) (now (rows .exit))
+        ≡ answerTo p e (sharesOf (p .d) m (now (holders .entry)) (now (shares .entry))) ⌝ }
+    ensures wrong { λ r. ⌜ r .wrong ≡ wrongOf (p .k) (p .d) (sharesOf (p .d) m (now (holders .entry)) (now (shares .entry)))
+        (answerTo p e (sharesOf (p .d) m (now (holders .entry)) (now (shares .entry)))) ⌝ }
+    ensures shaped { λ _. ⌜ Shaped (now (rows .exit)) ⌝ }
 {
-    search(p.k, p.d, p.t, m, holders, shares, e, out)
+    if m <= p.t {
+        return Opened {
+            fault: words::TOO_FEW_SHARES,
+            wrong: 0,
+        };
+    }
+    if (((m - p.t - 1) / 2) as u64) < e {
+        return Opened {
+            fault: words::TOO_FEW_SHARES,
+            wrong: 0,
+        };
+    }
+    search(p.k, p.d, p.t, m, holders, shares, e, rows)
+}
+
+// Hands out what is opened: the job's words, which are the free term's, into an output of d words, the wrong holders into one of one word, and
+// the fault; the outputs stay where there is one.
+pub fn hand_out(
+    d: usize,
+    opened: Opened,
+    rows: &[[u64; 6]; 64],
+    out: &mut [u64],
+    wrong: &mut [u64],
+) -> u8
+    requires { ⌜ ((2 ≤ d) × (d ≤ 6)) × Shaped (now rows) × (length (now out) ≡ d) × (length (now wrong) ≡ 1) ⌝ }
+    ensures fault { λ r. ⌜ r ≡ opened .fault ⌝ }
+    ensures out { λ _. ⌜ now (out .exit) ≡ kept (opened .fault) (now (out .entry)) (take d (getD (now (rows .entry)) 0 [])) ⌝ }
+    ensures wrong { λ _. ⌜ now (wrong .exit) ≡ kept (opened .fault) (now (wrong .entry)) (opened .wrong ∷ []) ⌝ }
+{
+    if opened.fault != 0 {
+        return opened.fault;
+    }
+    ring::store(d, out, 0, rows[0]);
+    wrong[0] = opened.wrong;
+    0
 }

@@ -30,12 +30,12 @@ fn reading(k: u64, w: u64) {
 // The call of a name: its number.
 fn call(name: u8, p: Params, a: &[u64], b: &[u64], out: &mut [u64]) -> u8 {
     if name == b'a' {
-        return ring::add(p, a, b, out);
+        return arithmetic::add(p, a, b, out);
     }
     if name == b'm' {
-        return ring::multiply(p, a, b, out);
+        return arithmetic::multiply(p, a, b, out);
     }
-    ring::invert(p, a, out)
+    arithmetic::invert(p, a, out)
 }
 
 fn answer(name: u8, p: Params, a: &[u64], b: &[u64], out: &mut [u64]) {

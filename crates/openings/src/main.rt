@@ -12,9 +12,10 @@ fn deal(p: Params, job: &[u64], coefficients: &[u64], out: &mut [u64]) {
 }
 
 fn open(p: Params, holders: &[u64], shares: &[u64], e: u64, out: &mut [u64]) {
-    let opened = sharing::open_shares(p, holders, shares, e, out);
-    cases::print_number(opened.fault as u64);
-    cases::print_number(opened.wrong);
+    let mut wrong = [0u64; 1];
+    let fault = sharing::open_shares(p, holders, shares, e, out, &mut wrong);
+    cases::print_number(fault as u64);
+    cases::print_number(wrong[0]);
     cases::print_words(out);
 }
 

@@ -4,17 +4,14 @@ use mathlib.Core.Bool.{true}
 use mathlib.Core.List.{List}
 use Prim.Native.Nat.{ℕ, _*_, _≤_, _<_}
 use native.Mathlib.Nat.{mul-le-mul, lt-of-lt-of-le, pow-le-pow-right}
-use native.Mathlib.Omega.{arith}
-use lib.Dec.{eqb}
 use lib.Pow.{pow-pos}
 use lib.ListN.{length}
-use borrow.Author.Tests.{eqb-true}
-use Rattle.words.specs.Params.{paramsOk}
+use Rattle.words.specs.Faults.{paramsFault, lengthFault, widthFault}
 use Rattle.words.specs.Word.{allInWidth}
 use Rattle.words.specs.declared.Params.{Params}
-use Rattle.words.proofs.InRange.{InRange, ok-range}
-use Rattle.words.proofs.Refusal.{first-left, first-right, unless-held}
-use Rattle.ring.specs.Calls.{paramsFault, lengthFault, widthFault}
+use Rattle.words.proofs.Faults.{params-clear, length-clear, width-clear}
+use Rattle.words.proofs.InRange.{InRange}
+use Rattle.words.proofs.Refusal.{first-left, first-right}
 use Rattle.sharing.specs.Dealing.{dealFault}
 
 -- n and t are below 64, so that n and t times d are small
@@ -23,19 +20,6 @@ few-holders p r = lt-of-lt-of-le (r .n-high) (pow-le-pow-right (pow-pos 1) (r .d
 
 pub few-words : (p : Params) → InRange p → (m : ℕ) → m ≤ 63 → m * p .d ≤ 378
 few-words p r m h = mul-le-mul h (r .d-high)
-
--- each of the faults that stand in several calls
-pub ranged : (p : Params) → paramsFault p ≡ 0 → InRange p
-unfolding paramsFault
-ranged p e = ok-range p (unless-held (paramsOk p) 1 (omega arith) e)
-
-pub sized : (d n : ℕ) → lengthFault d n ≡ 0 → n ≡ d
-unfolding lengthFault
-sized d n e = eqb-true n d (unless-held (eqb n d) 2 (omega arith) e)
-
-pub narrow : (k : ℕ) (s : List ℕ) → widthFault k s ≡ 0 → allInWidth k s ≡ true
-unfolding widthFault
-narrow k s e = unless-held (allInWidth k s) 3 (omega arith) e
 
 -- dealing with no fault
 pub record DealClear (p : Params) (secret coefficients : List ℕ) (n : ℕ) : Type 0 where
@@ -54,10 +38,10 @@ deal-clear p s c n e₁ =
     let e₄ = first-right (lengthFault (p .t * p .d) (length c)) _ e₃ in
     let e₅ = first-right (lengthFault (p .n * p .d) n) _ e₄ in
     record {
-      range = ranged p (first-left (paramsFault p) _ e₁);
-      secret-length = sized (p .d) (length s) (first-left (lengthFault (p .d) (length s)) _ e₂);
-      coefficients-length = sized (p .t * p .d) (length c) (first-left (lengthFault (p .t * p .d) (length c)) _ e₃);
-      out-length = sized (p .n * p .d) n (first-left (lengthFault (p .n * p .d) n) _ e₄);
-      secret-width = narrow (p .k) s (first-left (widthFault (p .k) s) _ e₅);
-      coefficients-width = narrow (p .k) c (first-right (widthFault (p .k) s) _ e₅);
+      range = params-clear p (first-left (paramsFault p) _ e₁);
+      secret-length = length-clear (p .d) (length s) (first-left (lengthFault (p .d) (length s)) _ e₂);
+      coefficients-length = length-clear (p .t * p .d) (length c) (first-left (lengthFault (p .t * p .d) (length c)) _ e₃);
+      out-length = length-clear (p .n * p .d) n (first-left (lengthFault (p .n * p .d) n) _ e₄);
+      secret-width = width-clear (p .k) s (first-left (widthFault (p .k) s) _ e₅);
+      coefficients-width = width-clear (p .k) c (first-right (widthFault (p .k) s) _ e₅);
     }

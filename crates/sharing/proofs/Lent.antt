@@ -1,30 +1,28 @@
 -- Lent shares: how many, under which holders; and what is known of them where no refusal ahead of 5 stops the call. Assumes nothing.
-use mathlib.Core.Path.{_≡_, refl, sym, _∙_, ap, ap₂}
+use mathlib.Core.Path.{_≡_, refl, _∙_, ap}
 use mathlib.Core.Bool.{true, false}
 use mathlib.Core.List.{List, [], _∷_}
-use Prim.Native.Nat.{ℕ, zero, suc, _+_, _-_, _*_, _/_, _%_, _^_, _≤_, _<_}
-use native.Mathlib.Nat.{mul-div-cancel, mul-mod-left, mod-add-div}
+use Prim.Native.Nat.{ℕ, zero, suc, _+_, _-_, _*_, _^_, _≤_, _<_}
 use native.Mathlib.Numerals.{add-one}
 use native.Mathlib.Omega.{arith}
-use lib.Dec.{leb, ltb, eqb}
+use lib.Dec.{leb, ltb}
 use lib.ListN.{length, take, drop, getD, length-drop}
 use lib.Seq.{drop-cons, length-take-le}
-use borrow.Author.Tests.{leb-true, ltb-true, eq-eqb, le-leb, lt-leb, lt-ltb, le-ltb}
-use Rattle.words.specs.Params.{paramsOk}
-use Rattle.words.specs.Refusal.{unless}
+use borrow.Author.Tests.{leb-true, ltb-true, le-leb, lt-leb, lt-ltb, le-ltb}
+use Rattle.words.specs.Faults.{paramsFault, lengthFault}
+use Rattle.words.specs.Refusal.{unless, HOLDER}
 use Rattle.words.specs.Word.{inWidth, allInWidth}
 use Rattle.words.specs.declared.Params.{Params}
-use Rattle.words.proofs.InRange.{InRange, range-ok}
-use Rattle.words.proofs.Refusal.{first-left, first-right, unless-held, pass, unless-yes}
+use Rattle.words.proofs.Faults.{params-clear, clear-params, length-clear, clear-length, width-clear, clear-width}
+use Rattle.words.proofs.InRange.{InRange}
+use Rattle.words.proofs.Refusal.{first-left, first-right, first-none, unless-held, pass}
 use Rattle.words.proofs.Tests.{and-left, and-right, and-both, and-yes, and-no}
 use Rattle.algebra.specs.Shares.{All}
 use Rattle.algebra.proofs.Shares.{all-map}
-use Rattle.ring.specs.Calls.{paramsFault, lengthFault, widthFault}
 use Rattle.codewords.specs.Codeword.{Share}
 use Rattle.codewords.specs.WellFormed.{InWidth, Rising, Holders}
 use Rattle.codewords.proofs.Without.{rising-different}
 use Rattle.sharing.specs.Opening.{lent, risingTo, lentFault}
-use Rattle.sharing.proofs.Faults.{ranged, sized, narrow}
 
 pub lent-length : (d : ℕ) (hs ws : List ℕ) → length (lent d hs ws) ≡ length hs
 unfolding lent
@@ -49,7 +47,9 @@ unfolding lent risingTo
 lent-rising d n prev [] ws e = tt
 lent-rising d n prev (h ∷ hs) ws e =
     let r = and-right (leb h n) _ (and-right (ltb prev h) _ e) in
-    (all-map (λ (s : Share) (x : (h < s .holder) × (s .holder ≤ n)). x .0) (lent d hs (drop d ws)) (lent-above d n h hs (drop d ws) r), lent-rising d n h hs (drop d ws) r)
+    let rest = lent d hs (drop d ws) in
+    let above = lent-above d n h hs (drop d ws) r in
+    (all-map (λ (s : Share) (x : (h < s .holder) × (s .holder ≤ n)). x .0) rest above, lent-rising d n h hs (drop d ws) r)
 
 pub lent-holders : (d n : ℕ) (hs ws : List ℕ) → n < 2 ^ d → risingTo n 0 hs ≡ true → Holders d (lent d hs ws)
 lent-holders d n hs ws l e = (
@@ -65,13 +65,15 @@ rising-low n prev hs i h l = rw (drop-cons hs i 0 h) (and-no (ltb prev (getD hs 
 pub rising-high : (n prev : ℕ) (hs : List ℕ) (i : ℕ) → i < length hs → prev < getD hs i 0 → n < getD hs i 0 → risingTo n prev (drop i hs) ≡ false
 unfolding risingTo
 rising-high n prev hs i h m l =
-    rw (drop-cons hs i 0 h) (and-yes (ltb prev (getD hs i 0)) _ (lt-ltb prev (getD hs i 0) m) (and-no (leb (getD hs i 0) n) _ (lt-leb (getD hs i 0) n l)))
+    let x = getD hs i 0 in
+    rw (drop-cons hs i 0 h) (and-yes (ltb prev x) _ (lt-ltb prev x m) (and-no (leb x n) _ (lt-leb x n l)))
 
 pub rising-next : (n prev : ℕ) (hs : List ℕ) (i : ℕ) → i < length hs → prev < getD hs i 0 → getD hs i 0 ≤ n
     → risingTo n prev (drop i hs) ≡ risingTo n (getD hs i 0) (drop (i + 1) hs)
 unfolding risingTo
 rising-next n prev hs i h m l =
-    rw (add-one, drop-cons hs i 0 h) (and-yes (ltb prev (getD hs i 0)) _ (lt-ltb prev (getD hs i 0) m) (and-yes (leb (getD hs i 0) n) _ (le-leb (getD hs i 0) n l) refl))
+    let x = getD hs i 0 in
+    rw (add-one, drop-cons hs i 0 h) (and-yes (ltb prev x) _ (lt-ltb prev x m) (and-yes (leb x n) _ (le-leb x n l) refl))
 
 -- there are at most n of them
 pub rising-length : (n prev : ℕ) (hs : List ℕ) → risingTo n prev hs ≡ true → length hs ≤ n - prev
@@ -83,17 +85,6 @@ rising-length n prev (h ∷ hs) e =
     let m : h ≤ n = leb-true h n (and-left (leb h n) _ r) in
     let t : length hs ≤ n - h = rising-length n h hs (and-right (leb h n) _ r) in
     omega (arith, l, m, t)
-
--- lengths compared by division
-pub quotient : (w m d : ℕ) → 0 < d → w ≡ m * d → w / d ≡ m
-quotient w m d h e = ap (λ (x : ℕ). x / d) e ∙ mul-div-cancel m h
-
-pub remainder : (w m d : ℕ) → w ≡ m * d → w % d ≡ 0
-remainder w m d e = ap (λ (x : ℕ). x % d) e ∙ mul-mod-left m d
-
-pub divided : (w m d : ℕ) → w / d ≡ m → w % d ≡ 0 → w ≡ m * d
-divided w m d q r =
-    sym (mod-add-div w d) ∙ ap₂ (λ (x y : ℕ). x + d * y) r q ∙ omega arith
 
 -- words in width, in parts of a list
 pub width-take : (k n : ℕ) (ws : List ℕ) → allInWidth k ws ≡ true → allInWidth k (take n ws) ≡ true
@@ -117,38 +108,39 @@ lent-width k d (h ∷ hs) ws l e = (
 )
 
 -- lent shares with no fault so far
-pub record LentClear (p : Params) (hs ws : List ℕ) (n : ℕ) : Type 0 where
+pub record LentClear (p : Params) (hs ws : List ℕ) (n w : ℕ) : Type 0 where
   pub range : InRange p
   pub words-length : length ws ≡ length hs * p .d
   pub out-length : n ≡ p .d
+  pub wrong-length : w ≡ 1
   pub rising : risingTo (p .n) 0 hs ≡ true
   pub width : allInWidth (p .k) ws ≡ true
 
-pub lent-clear : (p : Params) (hs ws : List ℕ) (n : ℕ) → lentFault p hs ws n ≡ 0 → LentClear p hs ws n
+pub lent-clear : (p : Params) (hs ws : List ℕ) (n w : ℕ) → lentFault p hs ws n w ≡ 0 → LentClear p hs ws n w
 unfolding lentFault
-lent-clear p hs ws n e₁ =
+lent-clear p hs ws n w e₁ =
     let e₂ = first-right (paramsFault p) _ e₁ in
     let e₃ = first-right (lengthFault (length hs * p .d) (length ws)) _ e₂ in
     let e₄ = first-right (lengthFault (p .d) n) _ e₃ in
+    let e₅ = first-right (lengthFault 1 w) _ e₄ in
     record {
-      range = ranged p (first-left (paramsFault p) _ e₁);
-      words-length = sized (length hs * p .d) (length ws) (first-left (lengthFault (length hs * p .d) (length ws)) _ e₂);
-      out-length = sized (p .d) n (first-left (lengthFault (p .d) n) _ e₃);
-      rising = unless-held (risingTo (p .n) 0 hs) 4 (omega arith) (first-left (unless (risingTo (p .n) 0 hs) 4) _ e₄);
-      width = narrow (p .k) ws (first-right (unless (risingTo (p .n) 0 hs) 4) _ e₄);
+      range = params-clear p (first-left (paramsFault p) _ e₁);
+      words-length = length-clear (length hs * p .d) (length ws) (first-left (lengthFault (length hs * p .d) (length ws)) _ e₂);
+      out-length = length-clear (p .d) n (first-left (lengthFault (p .d) n) _ e₃);
+      wrong-length = length-clear 1 w (first-left (lengthFault 1 w) _ e₄);
+      rising = unless-held (risingTo (p .n) 0 hs) HOLDER (omega arith) (first-left (unless (risingTo (p .n) 0 hs) HOLDER) _ e₅);
+      width = width-clear (p .k) ws (first-right (unless (risingTo (p .n) 0 hs) HOLDER) _ e₅);
     }
 
-pub clear-lent : (p : Params) (hs ws : List ℕ) (n : ℕ) → LentClear p hs ws n → lentFault p hs ws n ≡ 0
-unfolding lentFault paramsFault lengthFault widthFault
-clear-lent p hs ws n c =
-    pass (paramsOk p) 1 _ (range-ok p (c .range))
-    ∙ pass (eqb (length ws) (length hs * p .d)) 2 _ (eq-eqb (length ws) (length hs * p .d) (c .words-length))
-    ∙ pass (eqb n (p .d)) 2 _ (eq-eqb n (p .d) (c .out-length))
-    ∙ pass (risingTo (p .n) 0 hs) 4 _ (c .rising)
-    ∙ unless-yes (allInWidth (p .k) ws) 3 (c .width)
+pub clear-lent : (p : Params) (hs ws : List ℕ) (n w : ℕ) → LentClear p hs ws n w → lentFault p hs ws n w ≡ 0
+unfolding lentFault
+clear-lent p hs ws n w c =
+    first-none (paramsFault p) _ (clear-params p (c .range))
+    ∙ first-none (lengthFault (length hs * p .d) (length ws)) _ (clear-length (length hs * p .d) (length ws) (c .words-length))
+    ∙ first-none (lengthFault (p .d) n) _ (clear-length (p .d) n (c .out-length))
+    ∙ first-none (lengthFault 1 w) _ (clear-length 1 w (c .wrong-length))
+    ∙ pass (risingTo (p .n) 0 hs) HOLDER _ (c .rising)
+    ∙ clear-width (p .k) ws (c .width)
 
-pub clear-holders : (p : Params) (hs ws : List ℕ) (n : ℕ) → LentClear p hs ws n → Holders (p .d) (lent (p .d) hs ws)
-clear-holders p hs ws n c = lent-holders (p .d) (p .n) hs ws (c .range .n-high) (c .rising)
-
-pub clear-width : (p : Params) (hs ws : List ℕ) (n : ℕ) → LentClear p hs ws n → InWidth (p .k) (p .d) (lent (p .d) hs ws)
-clear-width p hs ws n c = lent-width (p .k) (p .d) hs ws (c .words-length) (c .width)
+pub clear-holders : (p : Params) (hs ws : List ℕ) (n w : ℕ) → LentClear p hs ws n w → Holders (p .d) (lent (p .d) hs ws)
+clear-holders p hs ws n w c = lent-holders (p .d) (p .n) hs ws (c .range .n-high) (c .rising)

@@ -6,6 +6,5 @@ pub mod Faults
 pub mod Lent
 pub mod Loaded
 pub mod Opens
-pub mod Answers
 pub mod Values
 pub mod DealtOpens

@@ -17,17 +17,13 @@ use Rattle.galois.proofs.Points.{length-point}
 use Rattle.polynomial.specs.Polynomial.{Polynomial, value}
 use Rattle.codewords.specs.Codeword.{Share, when, differs, errorSet}
 use Rattle.codewords.proofs.Value.{Rows, value-element}
-use Rattle.codewords.proofs.Linear.{sums, multiple, value-sum, value-multiple}
+use Rattle.codewords.specs.Linear.{sums, multiple}
+use Rattle.codewords.proofs.Linear.{value-sum, value-multiple}
 use Rattle.sharing.specs.Dealing.{dealtFrom}
+use Rattle.sharing.specs.Dealt.{valuesAt}
 use Rattle.sharing.specs.Lists.{ofHolders, onEach, onPairs, changedSet}
 use Rattle.sharing.specs.Opening.{lent, risingTo}
 use Rattle.sharing.proofs.Dealt.{share-length, share-at}
-
--- the words of the holders hs
-unfoldable pub valuesAt : ℕ → ℕ → Polynomial → List ℕ → List ℕ
-unfolding value point
-valuesAt k d q [] = []
-valuesAt k d q (h ∷ hs) = value k d q (point d h) ++ valuesAt k d q hs
 
 width-append : (k : ℕ) (vs ws : List ℕ) → allInWidth k vs ≡ true → allInWidth k ws ≡ true → allInWidth k (vs ++ ws) ≡ true
 unfolding allInWidth
@@ -48,7 +44,8 @@ module _ (k d : ℕ) (dl : 2 ≤ d) (dh : d ≤ 6) where
     unfolding valuesAt allInWidth
     values-width [] = refl
     values-width (h ∷ hs) =
-        width-append k (value k d q (point d h)) (valuesAt k d q hs) (value-element d dl dh k q rows (record { holder = h; words = [] }) .1) (values-width hs)
+        width-append k (value k d q (point d h)) (valuesAt k d q hs) (value-element d dl dh k q rows (record { holder = h; words = [] }) .1)
+        (values-width hs)
 
     -- the first words are the first holder's
     first : (h : ℕ) (hs : List ℕ) → take d (value k d q (point d h) ++ valuesAt k d q hs) ≡ value k d q (point d h)
@@ -98,8 +95,10 @@ module _ (k d : ℕ) (dl : 2 ≤ d) (dh : d ≤ 6) where
   unfolding onPairs valuesAt
   sum-values q r x y l [] = refl
   sum-values q r x y l (h ∷ hs) =
-      ap₂ (λ (a : Element) (vs : List ℕ). sum k a (take d (value k d r (point d h) ++ valuesAt k d r hs)) ++ onPairs (sum k) d (length hs) vs (drop d (value k d r (point d h) ++ valuesAt k d r hs))) (first q x h hs) (rest q x h hs)
-      ∙ ap₂ (λ (b : Element) (vs : List ℕ). sum k (value k d q (point d h)) b ++ onPairs (sum k) d (length hs) (valuesAt k d q hs) vs) (first r y h hs) (rest r y h hs)
+      let ws = value k d r (point d h) ++ valuesAt k d r hs in
+      ap₂ (λ (a : Element) (vs : List ℕ). sum k a (take d ws) ++ onPairs (sum k) d (length hs) vs (drop d ws)) (first q x h hs) (rest q x h hs)
+      ∙ ap₂ (λ (b : Element) (vs : List ℕ). sum k (value k d q (point d h)) b ++ onPairs (sum k) d (length hs) (valuesAt k d q hs) vs)
+      (first r y h hs) (rest r y h hs)
       ∙ ap₂ _++_ (sym (value-sum d dl dh k q r x y l (point d h) (length-point d h))) (sum-values q r x y l hs)
 
 -- nothing is changed where nothing is

@@ -2,10 +2,10 @@
 use Prim.Native.Nat.{ℕ, zero, suc, _*_}
 use mathlib.Core.List.{List, [], _∷_, _++_}
 use lib.ListN.{length, take, drop}
+use Rattle.words.specs.Faults.{paramsFault, lengthFault, widthFault}
 use Rattle.words.specs.Refusal.{first}
 use Rattle.words.specs.declared.Params.{Params}
 use Rattle.galois.specs.Element.{Element, point}
-use Rattle.ring.specs.Calls.{paramsFault, lengthFault, widthFault}
 use Rattle.polynomial.specs.Polynomial.{Polynomial, value}
 
 -- n elements of d words, one after another

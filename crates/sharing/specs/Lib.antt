@@ -2,3 +2,4 @@
 pub mod Dealing
 pub mod Opening
 pub mod Lists
+pub mod Dealt

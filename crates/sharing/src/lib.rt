@@ -4,42 +4,38 @@ ghost use mathlib.Core.Path.{_≡_};
 ghost use mathlib.Core.Bool.{true};
 ghost use mathlib.Core.List.{_∷_};
 ghost use Prim.Native.Nat.{_*_, _≤_};
+ghost use lib.Dec.{eqb};
 ghost use lib.ListN.{length, take};
-ghost use Rattle.words.specs.Params.{paramsOk};
 ghost use Rattle.words.specs.Refusal.{kept};
-ghost use Rattle.galois.specs.Element.{held, zeroE, point};
+ghost use Rattle.galois.specs.Element.{held, point};
 ghost use Rattle.polynomial.specs.Polynomial.{value};
 ghost use Rattle.polynomial.specs.Rows.{coefs};
-ghost use Rattle.codewords.specs.WellFormed.{InWidth};
-ghost use Rattle.level.specs.Shares.{sharesOf};
-ghost use Rattle.decoder.specs.Decoded.{Ordered};
+ghost use Rattle.codewords.specs.Opening.{faultOf, secretInto, wrongInto};
 ghost use Rattle.sharing.specs.Dealing.{elementsOf, dealt, dealFault};
-ghost use Rattle.sharing.specs.Opening.{faultOf, wrongOf, wordsOf, answerTo, risingTo, lentFault, opening};
-use level::Level;
+ghost use Rattle.sharing.specs.Opening.{lent, risingTo, lentFault, opening};
 
 // The fault of dealing into an output of length n.
 fn deal_fault(p: words::Params, secret: &[u64], coefficients: &[u64], n: usize) -> u8
     ensures { λ r. ⌜ r ≡ dealFault p (now (secret .entry)) (now (coefficients .entry)) n ⌝ }
 {
-    if !words::params_ok(p) {
-        return words::PARAMETERS;
+    // Products of the parameters are small enough only where these are in their ranges.
+    let fault = words::params_fault(p);
+    if fault != 0 {
+        return fault;
     }
-    if secret.len() != p.d {
-        return words::LENGTH;
+    let output = words::length_fault(p.n * p.d, n);
+    let lengths = words::first(
+        words::length_fault(p.d, secret.len()),
+        words::first(words::length_fault(p.t * p.d, coefficients.len()), output),
+    );
+    // Words are read only where there are as many as there should be.
+    if lengths != 0 {
+        return lengths;
     }
-    if coefficients.len() != p.t * p.d {
-        return words::LENGTH;
-    }
-    if n != p.n * p.d {
-        return words::LENGTH;
-    }
-    if !words::all_in_width(p.k, secret) {
-        return words::WIDE_WORD;
-    }
-    if !words::all_in_width(p.k, coefficients) {
-        return words::WIDE_WORD;
-    }
-    0
+    words::first(
+        words::width_fault(p.k, secret),
+        words::width_fault(p.k, coefficients),
+    )
 }
 
 // The value at holder x's point, in words of 64 bits, of the polynomial with the secret for its free term and the t coefficients after it, by
@@ -130,29 +126,33 @@ fn rising(n: usize, holders: &[u64]) -> bool
     true
 }
 
-// The refusals of lent shares ahead of 5, for an output of length n. Lengths are compared by division: their product may be too large.
-fn lent_fault(p: words::Params, holders: &[u64], shares: &[u64], n: usize) -> u8
-    ensures { λ r. ⌜ r ≡ lentFault p (now (holders .entry)) (now (shares .entry)) n ⌝ }
+// Whether n words are m elements of d words: by division, since the product may be too large.
+fn elements_ok(m: usize, d: usize, n: usize) -> bool
+    requires { ⌜ 1 ≤ d ⌝ }
+    ensures { λ r. ⌜ r ≡ eqb n (m * d) ⌝ }
 {
-    if !words::params_ok(p) {
-        return words::PARAMETERS;
+    if n % d != 0 {
+        return false;
     }
-    if shares.len() / p.d != holders.len() {
-        return words::LENGTH;
+    n / d == m
+}
+
+// The refusals of lent shares ahead of 5, for outputs of n and of w words.
+fn lent_fault(p: words::Params, holders: &[u64], shares: &[u64], n: usize, w: usize) -> u8
+    ensures { λ r. ⌜ r ≡ lentFault p (now (holders .entry)) (now (shares .entry)) n w ⌝ }
+{
+    let fault = words::params_fault(p);
+    if fault != 0 {
+        return fault;
     }
-    if shares.len() % p.d != 0 {
-        return words::LENGTH;
+    let sized = words::unless(elements_ok(holders.len(), p.d, shares.len()), words::LENGTH);
+    let outputs = words::first(words::length_fault(p.d, n), words::length_fault(1, w));
+    let lengths = words::first(sized, outputs);
+    if lengths != 0 {
+        return lengths;
     }
-    if n != p.d {
-        return words::LENGTH;
-    }
-    if !rising(p.n, holders) {
-        return words::HOLDER;
-    }
-    if !words::all_in_width(p.k, shares) {
-        return words::WIDE_WORD;
-    }
-    0
+    let named = words::unless(rising(p.n, holders), words::HOLDER);
+    words::first(named, words::width_fault(p.k, shares))
 }
 
 // Lent holders, in an array.
@@ -183,97 +183,32 @@ fn load_shares(d: usize, m: usize, shares: &[u64]) -> [[u64; 6]; 63]
     r
 }
 
-// What shares open to: the fault 5, 6 or 0; the set of the wrong holders and the secret's words, both zero where there is a fault.
-pub struct Answer {
-    pub fault: u8,
-    pub wrong: u64,
-    pub words: [u64; 6],
-}
-
-// The answer to m shares in arrays, with the error bound e. The arrays are room to work in: nothing is promised of them after.
-pub fn answer_to(
-    p: words::Params,
-    m: usize,
-    holders: &mut [u64; 63],
-    shares: &mut [[u64; 6]; 63],
-    e: u64,
-) -> Answer
-    requires { ⌜ (paramsOk p ≡ true) × (m ≤ 63) × Ordered (p .n) (sharesOf (p .d) m (now holders) (now shares))
-        × InWidth (p .k) (p .d) (sharesOf (p .d) m (now holders) (now shares)) × (length (now holders) ≡ 63) × (length (now shares) ≡ 63) ⌝ }
-    ensures { λ r. ⌜ (r .fault ≡ faultOf (answerTo p e (sharesOf (p .d) m (now (holders .entry)) (now (shares .entry)))))
-        × (r .wrong ≡ wrongOf (answerTo p e (sharesOf (p .d) m (now (holders .entry)) (now (shares .entry)))))
-        × (r .words ≡ held (p .d) (wordsOf (zeroE (p .d)) (answerTo p e (sharesOf (p .d) m (now (holders .entry)) (now (shares .entry)))))) ⌝ }
-{
-    if m <= p.t {
-        return Answer {
-            fault: words::TOO_FEW_SHARES,
-            wrong: 0,
-            words: [0; 6],
-        };
-    }
-    if (((m - p.t - 1) / 2) as u64) < e {
-        return Answer {
-            fault: words::TOO_FEW_SHARES,
-            wrong: 0,
-            words: [0; 6],
-        };
-    }
-    let mut secret = [0u64; 6];
-    let level = decoder::decode(p, m, holders, shares, e, &mut secret);
-    let Level::Codeword(wrong) = level else {
-        return Answer {
-            fault: words::NO_CODEWORD,
-            wrong: 0,
-            words: [0; 6],
-        };
-    };
-    Answer {
-        fault: 0,
-        wrong: wrong,
-        words: secret,
-    }
-}
-
-// The fault of an opening, 0 for none, and the set of the wrong holders: bit i - 1 for holder i.
-pub struct Opened {
-    pub fault: u8,
-    pub wrong: u64,
-}
-
-// A job opened from lent shares: d words for each lent holder, and at most e of the shares wrong. The job's words go to the output.
+// A job opened from lent shares: d words for each lent holder, and at most e of the shares wrong. The job's words go to an output of d words,
+// the set of the wrong holders, bit i - 1 for holder i, to one of one word.
 pub fn open_shares(
     p: words::Params,
     holders: &[u64],
     shares: &[u64],
     e: u64,
     out: &mut [u64],
-) -> Opened
-    ensures { λ r. ⌜ (r .fault ≡ faultOf (opening p (now (holders .entry)) (now (shares .entry)) e (length (now (out .entry)))))
-        × (r .wrong ≡ wrongOf (opening p (now (holders .entry)) (now (shares .entry)) e (length (now (out .entry)))))
-        × (now (out .exit)
-        ≡ wordsOf (now (out .entry)) (opening p (now (holders .entry)) (now (shares .entry)) e (length (now (out .entry))))) ⌝ }
+    wrong: &mut [u64],
+) -> u8
+    ensures fault { λ r. ⌜ r ≡ faultOf (opening p (now (holders .entry)) (now (shares .entry)) e (length (now (out .entry)))
+        (length (now (wrong .entry)))) ⌝ }
+    ensures out { λ _. ⌜ now (out .exit) ≡ secretInto (now (out .entry)) (opening p (now (holders .entry)) (now (shares .entry)) e
+        (length (now (out .entry))) (length (now (wrong .entry)))) ⌝ }
+    ensures wrong { λ _. ⌜ now (wrong .exit) ≡ wrongInto (p .k) (p .d) (lent (p .d) (now (holders .entry)) (now (shares .entry)))
+        (now (wrong .entry)) (opening p (now (holders .entry)) (now (shares .entry)) e (length (now (out .entry)))
+        (length (now (wrong .entry)))) ⌝ }
 {
-    let fault = lent_fault(p, holders, shares, out.len());
+    let fault = lent_fault(p, holders, shares, out.len(), wrong.len());
     if fault != 0 {
-        return Opened {
-            fault: fault,
-            wrong: 0,
-        };
+        return fault;
     }
     let m = holders.len();
     let mut hs = load_holders(holders);
     let mut ys = load_shares(p.d, m, shares);
-    let a = answer_to(p, m, &mut hs, &mut ys, e);
-    if a.fault != 0 {
-        return Opened {
-            fault: a.fault,
-            wrong: 0,
-        };
-    }
-    let words = a.words;
-    ring::store(p.d, out, 0, words);
-    Opened {
-        fault: 0,
-        wrong: a.wrong,
-    }
+    let mut rows = [[0u64; 6]; 64];
+    let opened = decoder::decode(p, m, &mut hs, &mut ys, e, &mut rows);
+    decoder::hand_out(p.d, opened, &rows, out, wrong)
 }

@@ -34,39 +34,6 @@ bits-at l h = bits-six (getD (l .before .args .rest .now) (l .loop .i - 1) []) (
 loop-holds : tie.Need-loop-holds Inv-loop μ-loop
 loop-holds c = let x = compare-start (c .args .m) (c .args .hs .now) (c .args .rest .now) (c .pre .1) in (omega arith, x .0, x .1)
 
-sub-i : tie.Need-sub-i Inv-loop μ-loop
-sub-i c = search needs
-
-mul-u : tie.Need-mul-u Inv-loop μ-loop
-mul-u c = search needs
-
-element-copy-out-u : tie.Need-element-copy-out-u Inv-loop μ-loop
-element-copy-out-u c = search needs
-
-array-read-b : tie.Need-array-read-b Inv-loop μ-loop
-array-read-b c = search needs
-
-array-read-b-2 : tie.Need-array-read-b-2 Inv-loop μ-loop
-array-read-b-2 c = search needs
-
-array-read-b-3 : tie.Need-array-read-b-3 Inv-loop μ-loop
-array-read-b-3 c = search needs
-
-array-read-b-4 : tie.Need-array-read-b-4 Inv-loop μ-loop
-array-read-b-4 c = search needs
-
-array-read-b-5 : tie.Need-array-read-b-5 Inv-loop μ-loop
-array-read-b-5 c = search needs
-
-array-read-b-6 : tie.Need-array-read-b-6 Inv-loop μ-loop
-array-read-b-6 c = search needs
-
-mul-set : tie.Need-mul-set Inv-loop μ-loop
-mul-set c = search needs
-
-element-copy-out-set : tie.Need-element-copy-out-set Inv-loop μ-loop
-element-copy-out-set c = search needs
-
 sub-set : tie.Need-sub-set Inv-loop μ-loop
 sub-set c =
     let l = c .before .before .before .before in
@@ -78,9 +45,6 @@ shl-set c =
     let l = c .before .before .before .before in
     let a = l .before .args in
     omega (arith, holder-high (a .m) (a .hs .now) (a .rest .now) (l .before .pre .1) (l .loop .i) (omega arith) (l .loop .inv .0))
-
-loop-less : tie.Need-loop-less Inv-loop μ-loop
-loop-less c = search needs
 
 loop-again : tie.Need-loop-again Inv-loop μ-loop
 loop-again c =
@@ -95,9 +59,6 @@ loop-again c =
           (differs-true (shareAt 6 h r (i - 1)) (λ z. c .before .if1 .taken (b ∙ z))) (l .loop .set) (l .loop .inv .1),
       bits-more (a .m) h r (l .before .pre .1) i (omega arith) (l .loop .inv .0) (sixBits (getD r (i - 1) [])) (l .loop .bits) b (l .loop .inv .2),
     )
-
-loop-less-2 : tie.Need-loop-less-2 Inv-loop μ-loop
-loop-less-2 c = search needs
 
 loop-again-2 : tie.Need-loop-again-2 Inv-loop μ-loop
 loop-again-2 c =
@@ -129,21 +90,21 @@ compare-spec =
     Inv-loop
     μ-loop
     loop-holds
-    sub-i
-    mul-u
-    element-copy-out-u
-    array-read-b
-    array-read-b-2
-    array-read-b-3
-    array-read-b-4
-    array-read-b-5
-    array-read-b-6
-    mul-set
-    element-copy-out-set
+    (λ c. search needs)
+    (λ c. search needs)
+    (λ c. search needs)
+    (λ c. search needs)
+    (λ c. search needs)
+    (λ c. search needs)
+    (λ c. search needs)
+    (λ c. search needs)
+    (λ c. search needs)
+    (λ c. search needs)
+    (λ c. search needs)
     sub-set
     shl-set
-    loop-less
+    (λ c. search needs)
     loop-again
-    loop-less-2
+    (λ c. search needs)
     loop-again-2
     returns)

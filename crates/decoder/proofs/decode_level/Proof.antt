@@ -12,10 +12,11 @@ use Rattle.polynomial.proofs.Shape.{shaped-length}
 use Rattle.codewords.specs.Codeword.{Share, errors, errorSet}
 use Rattle.codewords.specs.Residue.{left}
 use Rattle.level.specs.Shares.{sharesOf}
-use Rattle.decoder.specs.Found.{named, levelFound}
+use Rattle.decoder.specs.Found.{named, levelFound, foundFault, roundFault}
 use Rattle.decoder.specs.Residues.{bitsOfAll}
+use Rattle.decoder.specs.declared.Found.{Found}
 use Rattle.decoder.proofs.Left.{Left, rest-left}
-use Rattle.decoder.proofs.LevelFound.{ones-of, lowest-at, found-few, found-field}
+use Rattle.decoder.proofs.LevelFound.{ones-of, lowest-at, found-few, found-field, told}
 use Rattle.decoder.proofs.decode_level.Statement.{statement}
 use Rattle.decoder.proofs.decode_level.Tie as tie
 
@@ -74,8 +75,9 @@ returns c =
     let f = c .before .before in
     let a = start f .args in
     let o = left-of (f .before .before) in (
-      found-few (a .k) (a .d) (a .t) (a .e) (poly (start f)) (shares (start f)) (f .compare .result .set) (set-is f)
-          (rw (← count-is f) (c .if1 .taken)),
+      told (a .k) (a .d) (a .t) (a .e) (poly (start f)) (shares (start f)) _
+          (found-few (a .k) (a .d) (a .t) (a .e) (poly (start f)) (shares (start f)) (f .compare .result .set) (set-is f)
+          (rw (← count-is f) (c .if1 .taken))),
       o .shaped,
     )
 
@@ -114,7 +116,16 @@ found c =
     let a = s .args in
     let b = g .before .before in
     found-field (a .k) (a .d) (a .t) (a .e) (poly s) (shares s) (far f) (sharesOf (a .d) (a .m) (a .hs .now) (rows b)) (left-of b .is)
-    (g .compare .result .bits) (bits-is g) (c .decide .result) (c .decide .ensures)
+    (g .compare .result .bits) (bits-is g) (c .decide .result) (c .decide .ensures .0)
+
+answers : (c : tie.After-decide) (r : Found) →
+    (let s = start (compared (c .before .before .before)) in
+    let a = s .args in
+    r ≡ levelFound (a .k) (a .d) (a .t) (a .e) (poly s) (shares s) →
+    (r ≡ levelFound (a .k) (a .d) (a .t) (a .e) (poly s) (shares s)) × (foundFault r ≡ roundFault (a .k) (a .d) (a .t) (a .e) (poly s) (shares s)))
+answers c =
+    let s = start (compared (c .before .before .before)) in
+    told (s .args .k) (s .args .d) (s .args .t) (s .args .e) (poly s) (shares s)
 
 enum-known-got : tie.Need-enum-known-got
 enum-known-got c = search needs
@@ -126,13 +137,13 @@ returns-2 : tie.Need-returns-2
 returns-2 c =
     let g = c .before .before in
     let o = left-of (compared (g .before .before .before) .before .before) in
-    (rw (c .enum-told .given .1) at (found g), o .shaped)
+    (answers g _ (rw (c .enum-told .given .1) at (found g)), o .shaped)
 
 returns-3 : tie.Need-returns-3
 returns-3 c =
     let g = c .before .before .before in
     let o = left-of (compared (g .before .before .before) .before .before) in
-    (rw (c .before .got .given .1) at (found g), o .shaped)
+    (answers g _ (rw (c .before .got .given .1) at (found g)), o .shaped)
 
 pub decode-level-spec : {M : Type 1} → statement M
 decode-level-spec =

@@ -24,30 +24,6 @@ loop-holds c =
     let a = c .args in
     (omega arith, omega arith, c .pre .1, c .pre .2, λ d. refl, λ d. drop-start d (a .w) (a .hs .now) (a .ys .now) (a .m))
 
-mul-x : tie.Need-mul-x Inv-loop μ-loop
-mul-x c = search needs
-
-element-copy-out-x : tie.Need-element-copy-out-x Inv-loop μ-loop
-element-copy-out-x c = search needs
-
-mul-y : tie.Need-mul-y Inv-loop μ-loop
-mul-y c = search needs
-
-element-copy-out-y : tie.Need-element-copy-out-y Inv-loop μ-loop
-element-copy-out-y c = search needs
-
-mul-hs : tie.Need-mul-hs Inv-loop μ-loop
-mul-hs c = search needs
-
-element-write-hs : tie.Need-element-write-hs Inv-loop μ-loop
-element-write-hs c = search needs
-
-mul-y-2 : tie.Need-mul-y-2 Inv-loop μ-loop
-mul-y-2 c = search needs
-
-element-set-from-y : tie.Need-element-set-from-y Inv-loop μ-loop
-element-set-from-y c = search needs
-
 -- a holder's bit is one of a word's
 range : (l : tie.At-loop Inv-loop μ-loop) → l .loop .i < l .before .args .m →
     (1 ≤ getD (l .loop .hs) (l .loop .i) 0) × (getD (l .loop .hs) (l .loop .i) 0 ≤ 63)
@@ -65,18 +41,6 @@ shr-j : tie.Need-shr-j Inv-loop μ-loop
 shr-j c =
     let l = c .before .before .before in
     omega (arith, range l (omega arith) .1)
-
-sub-j-2 : tie.Need-sub-j-2 Inv-loop μ-loop
-sub-j-2 c = search needs
-
-add-j : tie.Need-add-j Inv-loop μ-loop
-add-j c = search needs
-
-add-i : tie.Need-add-i Inv-loop μ-loop
-add-i c = search needs
-
-loop-less : tie.Need-loop-less Inv-loop μ-loop
-loop-less c = search needs
 
 loop-again : tie.Need-loop-again Inv-loop μ-loop
 loop-again c =
@@ -116,19 +80,19 @@ drop-wrong-spec =
     Inv-loop
     μ-loop
     loop-holds
-    mul-x
-    element-copy-out-x
-    mul-y
-    element-copy-out-y
-    mul-hs
-    element-write-hs
-    mul-y-2
-    element-set-from-y
+    (λ c. search needs)
+    (λ c. search needs)
+    (λ c. search needs)
+    (λ c. search needs)
+    (λ c. search needs)
+    (λ c. search needs)
+    (λ c. search needs)
+    (λ c. search needs)
     sub-j
     shr-j
-    sub-j-2
-    add-j
-    add-i
-    loop-less
+    (λ c. search needs)
+    (λ c. search needs)
+    (λ c. search needs)
+    (λ c. search needs)
     loop-again
     returns)

@@ -19,24 +19,6 @@ Inv-loop k d t hs ys q₀ nodal₀ i₀ q nodal i =
 abbrev μ-loop : tie.MeasureT-loop
 μ-loop k d t hs ys q₀ nodal₀ i₀ q nodal i = i
 
-add-clear-rows : tie.Need-add-clear-rows Inv-loop μ-loop
-add-clear-rows c = search needs
-
-clear-rows-requires : tie.Need-clear-rows-requires Inv-loop μ-loop
-clear-rows-requires c κs = search needs
-
-add-clear-rows-2 : tie.Need-add-clear-rows-2 Inv-loop μ-loop
-add-clear-rows-2 c = search needs
-
-clear-rows-requires-2 : tie.Need-clear-rows-requires-2 Inv-loop μ-loop
-clear-rows-requires-2 c κs = search needs
-
-element-set-from-nodal : tie.Need-element-set-from-nodal Inv-loop μ-loop
-element-set-from-nodal c = search needs
-
-add-i : tie.Need-add-i Inv-loop μ-loop
-add-i c = search needs
-
 loop-holds : tie.Need-loop-holds Inv-loop μ-loop
 loop-holds c =
     let q = c .before .before in
@@ -51,30 +33,6 @@ loop-holds c =
           (clear-one n (a .t) (en .0)),
     )
 
-sub-i : tie.Need-sub-i Inv-loop μ-loop
-sub-i c = search needs
-
-sub-extend : tie.Need-sub-extend Inv-loop μ-loop
-sub-extend c = search needs
-
-mul-extend : tie.Need-mul-extend Inv-loop μ-loop
-mul-extend c = search needs
-
-element-copy-out-extend : tie.Need-element-copy-out-extend Inv-loop μ-loop
-element-copy-out-extend c = search needs
-
-mul-extend-2 : tie.Need-mul-extend-2 Inv-loop μ-loop
-mul-extend-2 c = search needs
-
-element-copy-out-extend-2 : tie.Need-element-copy-out-extend-2 Inv-loop μ-loop
-element-copy-out-extend-2 c = search needs
-
-extend-requires : tie.Need-extend-requires Inv-loop μ-loop
-extend-requires c κs = search needs
-
-loop-less : tie.Need-loop-less Inv-loop μ-loop
-loop-less c = search needs
-
 loop-again : tie.Need-loop-again Inv-loop μ-loop
 loop-again c =
     let l = c .before .before .before .before .before .before in
@@ -88,9 +46,6 @@ loop-again c =
       λ h dl dh. interpolate-turn (a .k) (a .d) h dl dh (a .t) (a .hs .now) (a .ys .now) w (l .loop .i) (omega arith) (l .loop .inv .0)
           (l .loop .q) (l .loop .nodal) (c .extend .last .1 .1 .0) (c .extend .last .1 .1 .1 .0) (l .loop .inv .3 h dl dh) (e .0) (e .1),
     )
-
-reduce-rows-requires : tie.Need-reduce-rows-requires Inv-loop μ-loop
-reduce-rows-requires c κs = search needs
 
 returns : tie.Need-returns Inv-loop μ-loop
 returns c =
@@ -111,21 +66,21 @@ interpolate-spec =
     (tie.spec
     Inv-loop
     μ-loop
-    add-clear-rows
-    clear-rows-requires
-    add-clear-rows-2
-    clear-rows-requires-2
-    element-set-from-nodal
-    add-i
+    (λ c. search needs)
+    (λ c κs. search needs)
+    (λ c. search needs)
+    (λ c κs. search needs)
+    (λ c. search needs)
+    (λ c. search needs)
     loop-holds
-    sub-i
-    sub-extend
-    mul-extend
-    element-copy-out-extend
-    mul-extend-2
-    element-copy-out-extend-2
-    extend-requires
-    loop-less
+    (λ c. search needs)
+    (λ c. search needs)
+    (λ c. search needs)
+    (λ c. search needs)
+    (λ c. search needs)
+    (λ c. search needs)
+    (λ c κs. search needs)
+    (λ c. search needs)
     loop-again
-    reduce-rows-requires
+    (λ c κs. search needs)
     returns)

@@ -23,27 +23,6 @@ abbrev μ-loop : tie.MeasureT-loop
 loop-holds : tie.Need-loop-holds Inv-loop μ-loop
 loop-holds c = (omega arith, c .pre .2, sym (paste-zero (c .args .q .now) 0 (map (reduce (c .args .k)) (c .args .q .now))))
 
-mul-reduce : tie.Need-mul-reduce Inv-loop μ-loop
-mul-reduce c = search needs
-
-element-copy-out-reduce : tie.Need-element-copy-out-reduce Inv-loop μ-loop
-element-copy-out-reduce c = search needs
-
-reduce-requires : tie.Need-reduce-requires Inv-loop μ-loop
-reduce-requires c κs = search needs
-
-mul-t11 : tie.Need-mul-t11 Inv-loop μ-loop
-mul-t11 c = search needs
-
-element-set-from-q : tie.Need-element-set-from-q Inv-loop μ-loop
-element-set-from-q c = search needs
-
-add-j : tie.Need-add-j Inv-loop μ-loop
-add-j c = search needs
-
-loop-less : tie.Need-loop-less Inv-loop μ-loop
-loop-less c = search needs
-
 loop-again : tie.Need-loop-again Inv-loop μ-loop
 loop-again c =
     let l = c .before .before .before in
@@ -74,12 +53,12 @@ reduce-rows-spec =
     Inv-loop
     μ-loop
     loop-holds
-    mul-reduce
-    element-copy-out-reduce
-    reduce-requires
-    mul-t11
-    element-set-from-q
-    add-j
-    loop-less
+    (λ c. search needs)
+    (λ c. search needs)
+    (λ c κs. search needs)
+    (λ c. search needs)
+    (λ c. search needs)
+    (λ c. search needs)
+    (λ c. search needs)
     loop-again
     returns)

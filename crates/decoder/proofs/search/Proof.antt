@@ -19,18 +19,18 @@ use Rattle.decoder.specs.declared.Found.{Found}
 use Rattle.decoder.specs.declared.Found.the-variants.{Wrong, Nothing}
 use Rattle.decoder.proofs.Arrays.{take-of}
 use Rattle.decoder.proofs.Rows.{zero-shaped}
-use Rattle.decoder.proofs.Sought.{Sought, Jumped, Round, start, round}
+use Rattle.decoder.proofs.Rounds.{Sought, Jumped, Round, start, round}
 use Rattle.decoder.proofs.search.Statement.{statement}
 use Rattle.decoder.proofs.search.Tie as tie
 
 abbrev Inv-loop : tie.InvT-loop
-Inv-loop k d t m hs₀ ys₀ e out₀ wrong₀ bound₀ count₀ q₀ room₀ hs ys out wrong bound count q room =
-    (count ≤ 63) × (length hs ≡ 63) × (length ys ≡ 63) × (out ≡ out₀)
+Inv-loop k d t m hs₀ ys₀ e rows₀ wrong₀ bound₀ count₀ q₀ hs ys rows wrong bound count q =
+    (count ≤ 63) × (length hs ≡ 63) × (length ys ≡ 63)
     × Sought k d t e (sharesOf d m hs₀ ys₀) bound wrong (sharesOf d count hs ys)
-    × Shaped q × Shaped room
+    × Shaped q × Shaped rows
 
 abbrev μ-loop : tie.MeasureT-loop
-μ-loop k d t m hs₀ ys₀ e out₀ wrong₀ bound₀ count₀ q₀ room₀ hs ys out wrong bound count q room = bound
+μ-loop k d t m hs₀ ys₀ e rows₀ wrong₀ bound₀ count₀ q₀ hs ys rows wrong bound count q = bound
 
 -- the shares that are still in, at the head of the loop; there are t + 1 of them at least
 abbrev Head : Type 0
@@ -43,7 +43,7 @@ abbrev whole : Head → List Share
 whole l = let a = l .before .args in sharesOf (a .d) (a .m) (a .hs .now) (a .ys .now)
 
 enough : (l : Head) → suc (l .before .args .t) + 2 * l .loop .bound ≤ l .loop .count
-enough l = omega (arith, l .loop .inv .4 .enough, length-from (l .before .args .d) (l .loop .hs) (l .loop .ys) 0 (l .loop .count))
+enough l = omega (arith, l .loop .inv .3 .enough, length-from (l .before .args .d) (l .loop .hs) (l .loop .ys) 0 (l .loop .count))
 
 first : (l : Head) → take (suc (l .before .args .t)) (inside l) ≡ sharesOf (l .before .args .d) (suc (l .before .args .t)) (l .loop .hs) (l .loop .ys)
 first l = take-of (l .before .args .d) (l .loop .hs) (l .loop .ys) (suc (l .before .args .t)) (l .loop .count) (omega (arith, enough l))
@@ -54,11 +54,10 @@ loop-holds c =
       omega arith,
       c .pre .8,
       c .pre .9,
-      refl,
       start (a .d) (omega arith) (omega arith) (a .k) (a .t) (a .e) (sharesOf (a .d) (a .m) (a .hs .now) (a .ys .now)) (c .pre .5) (c .pre .6)
           (c .pre .7) (rw (length-from (a .d) (a .hs .now) (a .ys .now) 0 (a .m)) (c .pre .4)),
       zero-shaped,
-      zero-shaped,
+      c .pre .10,
     )
 
 interpolate-requires : tie.Need-interpolate-requires Inv-loop μ-loop
@@ -68,15 +67,9 @@ interpolate-requires c κs =
     let a = s .args in
     let n = suc (a .t) in
     let v = l .loop .inv in
-    let h : Holders (a .d) (sharesOf (a .d) n (l .loop .hs) (l .loop .ys)) = rw (← first l) (holders-take (a .d) n (inside l) (v .4 .holders)) in
-    let w : InWidth (a .k) (a .d) (sharesOf (a .d) n (l .loop .hs) (l .loop .ys)) = rw (← first l) (all-take (λ x y. y) n (inside l) (v .4 .width)) in
-    (s .pre .0, s .pre .1, s .pre .2, h, w, v .5, v .6)
-
-add-clear-rows : tie.Need-add-clear-rows Inv-loop μ-loop
-add-clear-rows c = search needs
-
-clear-rows-requires : tie.Need-clear-rows-requires Inv-loop μ-loop
-clear-rows-requires c κs = search needs
+    let h : Holders (a .d) (sharesOf (a .d) n (l .loop .hs) (l .loop .ys)) = rw (← first l) (holders-take (a .d) n (inside l) (v .3 .holders)) in
+    let w : InWidth (a .k) (a .d) (sharesOf (a .d) n (l .loop .hs) (l .loop .ys)) = rw (← first l) (all-take (λ x y. y) n (inside l) (v .3 .width)) in
+    (s .pre .0, s .pre .1, s .pre .2, h, w, v .4, v .5)
 
 decode-level-requires : tie.Need-decode-level-requires Inv-loop μ-loop
 decode-level-requires c κs =
@@ -86,7 +79,7 @@ decode-level-requires c κs =
     let p = l .before .pre in
     let v = l .loop .inv in
     let e = r .clear-rows .ensures in
-    (p .0, p .1, p .2, v .0, enough l, v .4 .holders, v .4 .width, i .interpolate .ensures .0, e .1, rw (add-one (l .before .args .t)) at (e .0))
+    (p .0, p .1, p .2, v .0, enough l, v .3 .holders, v .3 .width, i .interpolate .ensures .0, e .1, rw (add-one (l .before .args .t)) at (e .0))
 
 -- what a level gave
 abbrev Given : Type 0
@@ -109,20 +102,15 @@ level c got x =
     let l = head c in
     let a = l .before .args in
     let p = l .before .pre in
-    round (a .d) (p .1 .0) (p .1 .1) (a .k) (a .t) (a .e) (whole l) (l .loop .bound) (l .loop .wrong) (inside l) (l .loop .inv .4) (rows c)
+    round (a .d) (p .1 .0) (p .1 .1) (a .k) (a .t) (a .e) (whole l) (l .loop .bound) (l .loop .wrong) (inside l) (l .loop .inv .3) (rows c)
     (rw (first l) (interpolated c .interpolate .ensures .0)) (p .0 .1) (c .decode-level .result) got
-    (c .decode-level .ensures .0) x
-
-enum-known-got : tie.Need-enum-known-got Inv-loop μ-loop
-enum-known-got c = search needs
-
-enum-told : tie.Need-enum-told Inv-loop μ-loop
-enum-told c = search needs
+    (c .decode-level .ensures .0 .0) x
 
 returns : tie.Need-returns Inv-loop μ-loop
 returns c =
     let g = c .before .before in
-    rw (head g .loop .inv .3) (level g Nothing (c .enum-told .given .1) (head g .before .args .out .now))
+    let r = level g Nothing (c .enum-told .given .1) in
+    (r .0, (r .1, g .decode-level .ensures .1))
 
 -- holders are named
 abbrev Named : Type 0
@@ -146,13 +134,11 @@ wrong-level c all x = level (given c) (Wrong (named c) all) (c .before .got .giv
 add-wrong : tie.Need-add-wrong Inv-loop μ-loop
 add-wrong c = omega (arith, wrong-level c (all-named c) refl .0)
 
-array-copy-out-out : tie.Need-array-copy-out-out Inv-loop μ-loop
-array-copy-out-out c = search needs
-
 returns-2 : tie.Need-returns-2 Inv-loop μ-loop
 returns-2 c =
-    let n = c .before .before in
-    wrong-level n true (c .before .if1 .taken) .1 (head (given n) .before .args .out .now)
+    let n = c .before in
+    let r = wrong-level n true (c .if1 .taken) .1 in
+    (r .0, (r .1, interpolated (given n) .interpolate .ensures .1))
 
 -- some of them only
 jumped : (c : tie.Else1 Inv-loop μ-loop) →
@@ -173,7 +159,7 @@ drop-wrong-requires c κs =
     let l = head (given (c .before .before .before)) in
     let s = l .before in
     let v = l .loop .inv in
-    (v .0, v .1, v .2, holders-numbered (s .args .d) (s .pre .1 .1) (l .loop .count) (l .loop .hs) (l .loop .ys) (v .4 .holders))
+    (v .0, v .1, v .2, holders-numbered (s .args .d) (s .pre .1 .1) (l .loop .count) (l .loop .hs) (l .loop .ys) (v .3 .holders))
 
 loop-less : tie.Need-loop-less Inv-loop μ-loop
 loop-less c = let j = jumped (c .before .before .before) in omega (arith, j .within, j .drops)
@@ -187,7 +173,6 @@ loop-again c =
       omega (arith, e .1, l .loop .inv .0),
       e .2,
       e .3,
-      l .loop .inv .3,
       rw (e .0 (l .before .args .d)) (jumped f .next),
       interpolated g .interpolate .ensures .1,
       g .decode-level .ensures .1,
@@ -201,14 +186,13 @@ search-spec =
     μ-loop
     loop-holds
     interpolate-requires
-    add-clear-rows
-    clear-rows-requires
+    (λ c. search needs)
+    (λ c κs. search needs)
     decode-level-requires
-    enum-known-got
-    enum-told
+    (λ c. search needs)
+    (λ c. search needs)
     returns
     add-wrong
-    array-copy-out-out
     returns-2
     cast-errors
     sub-bound

@@ -1,118 +1,91 @@
-use borrow.Author.Tests.{not-true, not-false, eq-eqb, ne-eqb}
+-- `sharing::deal_fault` meets its contract: the parameters' fault, the lengths', or the words'. Assumes nothing.
+use borrow.Author.Needs.{needs}
 use native.Mathlib.Omega.{arith}
-use mathlib.Core.Path.{_≡_, sym, _∙_}
-use mathlib.Core.Bool.{true}
-use Prim.Native.Nat.{_*_}
-use lib.Dec.{eqb}
+use mathlib.Core.Path.{_≡_, sym, ap, ap₂, _∙_}
+use Prim.Native.Nat.{ℕ, _*_}
 use lib.ListN.{length}
-use Rattle.words.specs.Params.{paramsOk}
-use Rattle.words.specs.Refusal.{first, unless}
-use Rattle.words.specs.Word.{allInWidth}
-use Rattle.words.proofs.InRange.{InRange, ok-range}
-use Rattle.ring.specs.Calls.{paramsFault, lengthFault, widthFault}
+use Rattle.words.specs.Faults.{paramsFault, lengthFault, widthFault}
+use Rattle.words.specs.Refusal.{first}
+use Rattle.words.proofs.Faults.{params-clear}
+use Rattle.words.proofs.InRange.{InRange}
+use Rattle.words.proofs.Refusal.{first-none, first-some, first-three}
 use Rattle.sharing.specs.Dealing.{dealFault}
 use Rattle.sharing.proofs.Faults.{few-holders, few-words}
-use borrow.Author.Needs.{needs}
 use Rattle.sharing.proofs.deal_fault.Statement.{statement}
 use Rattle.sharing.proofs.deal_fault.Tie as tie
-use Rattle.sharing.proofs.deal_fault.Reads as reads
-use Rattle.sharing.proofs.deal_fault.Lts as lts
-use Rattle.words.proofs.all_in_width.Reads as all-in-width-reads
-use Rattle.words.proofs.params_ok.Reads as params-ok-reads
 
--- the function's entry, and what each passed test says, at the place where its branch has been left
+-- the parameters are in their ranges
 abbrev S : tie.Else1 → tie.Start
 S c = c .before .before .before .before
 
-params-true : (c : tie.Else1) → paramsOk (S c .args .p) ≡ true
-params-true c = sym (c .before .params-ok .ensures) ∙ not-false _ (c .if1 .left)
+clear : (c : tie.Else1) → paramsFault (S c .args .p) ≡ 0
+clear c = sym (c .before .params-fault .ensures) ∙ c .if1 .left
 
 range : (c : tie.Else1) → InRange (S c .args .p)
-range c = ok-range _ (params-true c)
+range c = params-clear (S c .args .p) (clear c)
 
-secret-sized : (c : tie.Else2) → let s = S (c .before .before) in eqb (length (s .args .secret .now)) (s .args .p .d) ≡ true
-secret-sized c = eq-eqb _ _ (c .if2 .left)
+-- the words' faults
+abbrev widths : tie.Start → ℕ
+widths s = first (widthFault (s .args .p .k) (s .args .secret .now)) (widthFault (s .args .p .k) (s .args .coefficients .now))
 
-coefficients-sized : (c : tie.Else3) → let s = S (c .before .before .before .before) in eqb (length (s .args .coefficients .now)) (s .args .p .t * s .args .p .d) ≡ true
-coefficients-sized c = eq-eqb _ _ (c .if3 .left)
+split : (c : tie.After-first2) → let s = S (c .before .before .before .before .before .before .before) in
+    dealFault (s .args .p) (s .args .secret .now) (s .args .coefficients .now) (s .args .n) ≡ first (c .first2 .result) (widths s)
+unfolding dealFault
+split c =
+    let s = S (c .before .before .before .before .before .before .before) in
+    let p = s .args .p in
+    let x = lengthFault (p .d) (length (s .args .secret .now)) in
+    let y = lengthFault (p .t * p .d) (length (s .args .coefficients .now)) in
+    let z = lengthFault (p .n * p .d) (s .args .n) in
+    let e : c .first2 .result ≡ first x (first y z) =
+    c .first2 .ensures
+    ∙ ap₂ first (c .before .before .before .before .length-fault2 .ensures)
+    (c .before .first .ensures ∙ ap₂ first (c .before .before .length-fault3 .ensures) (c .before .before .before .before .before .length-fault .ensures)) in
+    first-none (paramsFault p) _ (clear (c .before .before .before .before .before .before .before)) ∙ sym (first-three x y z (widths s)) ∙ ap (λ u. first u (widths s)) (sym e)
 
-out-sized : (c : tie.Else4) → let s = S (c .before .before .before .before .before .before) in eqb (s .args .n) (s .args .p .n * s .args .p .d) ≡ true
-out-sized c = eq-eqb _ _ (c .if4 .left)
-
-secret-narrow : (c : tie.Else5) → let s = S (c .before .before .before .before .before .before .before .before) in allInWidth (s .args .p .k) (s .args .secret .now) ≡ true
-secret-narrow c = sym (c .before .all-in-width .ensures) ∙ not-false _ (c .if5 .left)
-
-coefficients-narrow : (c : tie.Else6) → let s = S (c .before .before .before .before .before .before .before .before .before .before) in allInWidth (s .args .p .k) (s .args .coefficients .now) ≡ true
-coefficients-narrow c = sym (c .before .all-in-width2 .ensures) ∙ not-false _ (c .if6 .left)
-
--- src/lib.rt:17:9
-params-ok-requires : tie.Need-params-ok-requires
-params-ok-requires c κs = search needs
-
--- src/lib.rt:18:9
 returns : tie.Need-returns
-unfolding dealFault paramsFault lengthFault widthFault first unless
-returns c = rw (sym (c .before .params-ok .ensures) ∙ not-true _ (c .if1 .taken))
+unfolding dealFault
+returns c =
+    let e = c .before .params-fault .ensures in
+    e ∙ sym (first-some (paramsFault (c .before .before .before .before .args .p)) _ (λ z. c .if1 .taken (e ∙ z)))
 
--- src/lib.rt:21:9
+mul-length-fault : tie.Need-mul-length-fault
+mul-length-fault c =
+    let f = c .before in
+    let r = range f in
+    omega (arith, few-words _ r (S f .args .p .n) (omega (arith, few-holders _ r)))
+
+mul-length-fault-2 : tie.Need-mul-length-fault-2
+mul-length-fault-2 c =
+    let f = c .before .before .before .before in
+    let r = range f in
+    omega (arith, few-words _ r (S f .args .p .t) (omega (arith, few-holders _ r, r .t-high)))
+
 returns-2 : tie.Need-returns-2
-unfolding dealFault paramsFault lengthFault widthFault first unless
-returns-2 c = rw (params-true (c .before .before), ne-eqb _ _ (c .if2 .taken))
+returns-2 c = let f = c .before in sym (split f ∙ first-some (f .first2 .result) (widths (S (f .before .before .before .before .before .before .before))) (c .if2 .taken))
 
--- src/lib.rt:23:30
-mul-if3 : tie.Need-mul-if3
-mul-if3 c = let r = range (c .before .before .before) in omega (arith, few-holders _ r, r .t-high, few-words _ r (c .before .before .before .before .before .before .before .args .p .t) (omega (arith, few-holders _ r, r .t-high)))
-
--- src/lib.rt:24:9
 returns-3 : tie.Need-returns-3
-unfolding dealFault paramsFault lengthFault widthFault first unless
-returns-3 c = rw (params-true (c .before .before .before .before), secret-sized (c .before .before), ne-eqb _ _ (c .if3 .taken))
-
--- src/lib.rt:26:13
-mul-if4 : tie.Need-mul-if4
-mul-if4 c = let r = range (c .before .before .before .before .before) in omega (arith, few-words _ r (c .before .before .before .before .before .before .before .before .before .args .p .n) (omega (arith, few-holders _ r)))
-
--- src/lib.rt:27:9
-returns-4 : tie.Need-returns-4
-unfolding dealFault paramsFault lengthFault widthFault first unless
-returns-4 c = rw (params-true (c .before .before .before .before .before .before), secret-sized (c .before .before .before .before), coefficients-sized (c .before .before), ne-eqb _ _ (c .if4 .taken))
-
--- src/lib.rt:29:9
-all-in-width-requires : tie.Need-all-in-width-requires
-all-in-width-requires c κs = let r = range (c .before .before .before .before .before .before) in (r .k-low, r .k-high)
-
--- src/lib.rt:30:9
-returns-5 : tie.Need-returns-5
-unfolding dealFault paramsFault lengthFault widthFault first unless
-returns-5 c = rw (params-true (c .before .before .before .before .before .before .before .before), secret-sized (c .before .before .before .before .before .before), coefficients-sized (c .before .before .before .before), out-sized (c .before .before), sym (c .before .all-in-width .ensures) ∙ not-true _ (c .if5 .taken))
-
--- src/lib.rt:32:9
-all-in-width-requires-2 : tie.Need-all-in-width-requires-2
-all-in-width-requires-2 c κs = let r = range (c .before .before .before .before .before .before .before .before) in (r .k-low, r .k-high)
-
--- src/lib.rt:33:9
-returns-6 : tie.Need-returns-6
-unfolding dealFault paramsFault lengthFault widthFault first unless
-returns-6 c = rw (params-true (c .before .before .before .before .before .before .before .before .before .before), secret-sized (c .before .before .before .before .before .before .before .before), coefficients-sized (c .before .before .before .before .before .before), out-sized (c .before .before .before .before), secret-narrow (c .before .before), sym (c .before .all-in-width2 .ensures) ∙ not-true _ (c .if6 .taken))
-
--- src/lib.rt:14:1
-returns-7 : tie.Need-returns-7
-unfolding dealFault paramsFault lengthFault widthFault first unless
-returns-7 c = rw (params-true (c .before .before .before .before .before .before .before .before .before .before), secret-sized (c .before .before .before .before .before .before .before .before), coefficients-sized (c .before .before .before .before .before .before), out-sized (c .before .before .before .before), secret-narrow (c .before .before), coefficients-narrow c)
+returns-3 c =
+    let f = c .before .before .before .before in
+    c .first3 .ensures
+    ∙ ap₂ first (c .before .before .width-fault .ensures) (c .before .width-fault2 .ensures)
+    ∙ sym (split f ∙ first-none (f .first2 .result) (widths (S (f .before .before .before .before .before .before .before))) (c .before .before .before .if2 .left))
 
 pub deal-fault-spec : {M : Type 1} → statement M
 deal-fault-spec =
     tie.close
     (tie.spec
-    params-ok-requires
+    (λ c κs. search needs)
     returns
+    mul-length-fault
+    (λ c κs. search needs)
+    (λ c κs. search needs)
+    mul-length-fault-2
+    (λ c κs. search needs)
+    (λ c κs. search needs)
+    (λ c κs. search needs)
     returns-2
-    mul-if3
-    returns-3
-    mul-if4
-    returns-4
-    all-in-width-requires
-    returns-5
-    all-in-width-requires-2
-    returns-6
-    returns-7)
+    (λ c κs. search needs)
+    (λ c κs. search needs)
+    (λ c κs. search needs)
+    returns-3)

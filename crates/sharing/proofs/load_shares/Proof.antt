@@ -62,7 +62,8 @@ loop-again c =
     let hr : length r ≡ m = rows-length d m (s .args .shares .now) in (
       omega arith,
       simp length-set (l .loop .inv .1),
-      fill-next (replicate 63 (replicate 6 0)) r (l .loop .r) (l .loop .i) [] (c .load .result) (l .loop .inv .2) (omega arith) (omega arith) (c .load .ensures ∙ sym (row-at d m (s .args .shares .now) (l .loop .i) (omega arith))),
+      fill-next (replicate 63 (replicate 6 0)) r (l .loop .r) (l .loop .i) [] (c .load .result) (l .loop .inv .2) (omega arith) (omega arith)
+          (c .load .ensures ∙ sym (row-at d m (s .args .shares .now) (l .loop .i) (omega arith))),
     )
 
 -- src/lib.rt:154:1

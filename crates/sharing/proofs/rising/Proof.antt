@@ -40,7 +40,8 @@ returns-2 : tie.Need-returns-2 Inv-loop μ-loop
 returns-2 c =
     let l = c .before .before .before .before in
     let s = l .before in
-    sym (l .loop .inv .1 ∙ rising-high (s .args .n) (l .loop .prev) (s .args .holders .now) (l .loop .i) (omega arith) (c .before .if1 .left) (c .if2 .taken))
+    sym (l .loop .inv .1
+    ∙ rising-high (s .args .n) (l .loop .prev) (s .args .holders .now) (l .loop .i) (omega arith) (c .before .if1 .left) (c .if2 .taken))
 
 -- src/lib.rt:109:9
 add-i : tie.Need-add-i Inv-loop μ-loop
@@ -54,8 +55,11 @@ loop-less c = search needs
 loop-again : tie.Need-loop-again Inv-loop μ-loop
 loop-again c =
     let l = c .before .before .before .before in
-    let s = l .before in
-    (omega arith, l .loop .inv .1 ∙ rising-next (s .args .n) (l .loop .prev) (s .args .holders .now) (l .loop .i) (omega arith) (c .before .if1 .left) (c .if2 .left))
+    let s = l .before in (
+      omega arith,
+      l .loop .inv .1
+          ∙ rising-next (s .args .n) (l .loop .prev) (s .args .holders .now) (l .loop .i) (omega arith) (c .before .if1 .left) (c .if2 .left),
+    )
 
 -- src/lib.rt:95:1
 returns-3 : tie.Need-returns-3 Inv-loop μ-loop

@@ -58,15 +58,6 @@ load-requires c κs =
     let b = back (v .0) (s .args .d) (omega (arith, v .2)) in
     ((omega arith, omega arith), omega (arith, v .2, b .1, s .pre .3, mul-le-mul-right (s .args .d) (v .1)))
 
-sum-requires : tie.Need-sum-requires Inv-loop μ-loop
-sum-requires c κs = search needs
-
-product-by-point-requires : tie.Need-product-by-point-requires Inv-loop μ-loop
-product-by-point-requires c κs = search needs
-
-loop-less : tie.Need-loop-less Inv-loop μ-loop
-loop-less c = search needs
-
 loop-again : tie.Need-loop-again Inv-loop μ-loop
 loop-again c =
     let l = c .before .before .before .before in
@@ -84,12 +75,6 @@ loop-again c =
           (horner-turn 64 d (omega arith) (omega arith) (point d x) (length-point d x) (s .args .t) (s .args .coefficients .now) (s .pre .3)
           (l .loop .r) (v .0) (b .0) (v .1) (v .3)),
     )
-
-load-requires-2 : tie.Need-load-requires-2 Inv-loop μ-loop
-load-requires-2 c κs = search needs
-
-sum-requires-2 : tie.Need-sum-requires-2 Inv-loop μ-loop
-sum-requires-2 c κs = search needs
 
 -- none is before
 none : (i d : ℕ) → 2 ≤ d → i * d ≡ 0 → i ≡ 0
@@ -120,10 +105,10 @@ share-by-spec =
     loop-holds
     sub-at
     load-requires
-    sum-requires
-    product-by-point-requires
-    loop-less
+    (λ c κs. search needs)
+    (λ c κs. search needs)
+    (λ c. search needs)
     loop-again
-    load-requires-2
-    sum-requires-2
+    (λ c κs. search needs)
+    (λ c κs. search needs)
     returns)

@@ -9,19 +9,18 @@ use Prim.Native.Nat.{ℕ, zero, suc, _+_, _*_, _-_, _^_, _≤_, _<_}
 use native.Mathlib.Nat.{add-assoc, zero-add, pow-suc, pow-le-pow-right}
 use native.Mathlib.Omega.{arith}
 use lib.Count.{ones}
-use lib.ListN.{length, take, getD}
+use lib.ListN.{length, take}
+use Rattle.words.specs.Refusal.{NO-CODEWORD}
 use Rattle.algebra.specs.Shares.{All}
 use Rattle.algebra.proofs.Shares.{all-map}
 use Rattle.polynomial.specs.Rows.{Rows, coefs}
 use Rattle.codewords.specs.Codeword.{Share, Polynomial, differs, errors, errorSet, codeword}
+use Rattle.codewords.specs.Opening.{wrongOf, fromCodeword, openingIn}
 use Rattle.codewords.specs.Residue.{residue, bitOf, atBit, without}
 use Rattle.codewords.specs.WellFormed.{InWidth, Rising, Holders}
 use Rattle.codewords.proofs.Unique.{codeword-sound, codeword-complete}
 use Rattle.codewords.proofs.Without.{holders-without, rising-without, in-width-without, tally, errorSet-tally, tally-reword, tally-le, tally-without}
 use Rattle.codewords.proofs.Jump.{bit-differs-at, ones-at, enough-without, jump-none, jump-with, progress}
-use Rattle.level.specs.declared.Level.{Level}
-use Rattle.level.specs.declared.Level.the-variants.{Codeword, Nothing as None}
-use Rattle.decoder.specs.Decoded.{answer, storedSecret}
 use Rattle.decoder.specs.Found.{lowestBit, levelFound}
 use Rattle.decoder.specs.Residues.{Through}
 use Rattle.decoder.specs.declared.Found.{Found}
@@ -84,19 +83,20 @@ pub record Jumped (k d t e₀ : ℕ) (ss₀ : List Share) (e w : ℕ) (ss : List
   pub next : Sought k d t e₀ ss₀ (e - ones u) (w + u) (without u ss)
 
 module _ (k d t e₀ : ℕ) (ss₀ : List Share) where
-  -- the search's answer, and what it stores where `old` stood
-  abbrev Ends : Level → List ℕ → List ℕ → Type 0
-  Ends r out old = (r ≡ answer k d ss₀ (codeword k d t e₀ ss₀)) × (out ≡ storedSecret d (codeword k d t e₀ ss₀) old)
+  -- the search's answer: a number, a set and the rows
+  abbrev Ends : ℕ → ℕ → Rows → Type 0
+  Ends c u q =
+      (openingIn d t c q ≡ fromCodeword (codeword k d t e₀ ss₀)) × (u ≡ wrongOf k d ss₀ (fromCodeword (codeword k d t e₀ ss₀)))
 
   -- what the search makes of a level's answer; the polynomial is in q
   module _ (e w : ℕ) (ss : List Share) (q : Rows) where
     abbrev After : ℕ → Bool → Type 0
-    After u true = (old : List ℕ) → Ends (Codeword (w + u)) (getD q 0 []) old
+    After u true = Ends 0 (w + u) q
     After u false = Jumped k d t e₀ ss₀ e w ss u
 
     abbrev pub Round : Found → Type 0
     Round (Wrong u all) = (w + u < 2 ^ 63) × After u all
-    Round Nothing = (old : List ℕ) → Ends None old old
+    Round Nothing = Ends NO-CODEWORD 0 q
 
 module _ (d : ℕ) (dl : 2 ≤ d) (dh : d ≤ 6) (k t e₀ : ℕ) (ss₀ : List Share) where
   pub start : Holders d ss₀ → Rising ss₀ → InWidth k d ss₀ → suc t + 2 * e₀ ≤ length ss₀ → Sought k d t e₀ ss₀ e₀ 0 ss₀
@@ -139,10 +139,9 @@ module _ (d : ℕ) (dl : 2 ≤ d) (dh : d ≤ 6) (k t e₀ : ℕ) (ss₀ : List 
 
       -- few enough differ
       ends : errors k d P ss ≤ e → Round k d t e₀ ss₀ e w ss q (Wrong (errorSet k d P ss) true)
-      unfolding answer storedSecret
       ends h =
           let f = found-some P (codeword-complete d dl dh k t e ss P (r .holders) (r .enough) (th .0) h) in
-          (omega (arith, r .fits, errorSet-le k d P ss), λ old. rw (f .0) (ap Codeword (sym (f .1)), th .1))
+          (omega (arith, r .fits, errorSet-le k d P ss), rw (f .0) (refl, sym (f .1)))
 
       -- too many differ
       module _ (kh : k ≤ 64) (far : e < errors k d P ss) where
@@ -156,8 +155,7 @@ module _ (d : ℕ) (dl : 2 ≤ d) (dh : d ≤ 6) (k t e₀ : ℕ) (ss₀ : List 
         at = lowest-at d dl dh k t P ss kh (th .0) (r .width) (omega arith)
 
         nothing : codeword 1 d t e W ≡ none → Round k d t e₀ ss₀ e w ss q Nothing
-        unfolding answer storedSecret
-        nothing x old =
+        nothing x =
             rw (found-none (jump-none d dl dh k t e ss P v (r .holders) (r .width) (r .enough) (th .0) (at .room) (at .agree) x)) (refl, refl)
 
         -- a level's codeword: the shares that differ from it are dropped
@@ -184,7 +182,7 @@ module _ (d : ℕ) (dl : 2 ≤ d) (dh : d ≤ 6) (k t e₀ : ℕ) (ss₀ : List 
             where
               go : (n : ℕ) → ones u ≡ n → 0 < n
               go zero y =
-                  absurd (at .set (progress d dl dh k t e ss P v (r .holders) (r .width) (r .enough) (th .0) (th .2) g x (sym ones-u ∙ y)))
+                  absurd (at .set (progress d dl dh k t e ss P v (r .holders) (r .width) (r .enough) (th .0) (th .1) g x (sym ones-u ∙ y)))
               go (suc n) y = omega arith
 
           after : Sought k d t e₀ ss₀ (e - ones u) (w + u) (without u ss)
