@@ -4,7 +4,8 @@ use Prim.Native.Nat.{ℕ, zero, suc, _+_, _*_, _<_}
 use native.Mathlib.Omega.{arith}
 use mathlib.Core.List.{List}
 use lib.ListN.{length, getD}
-use Rattle.records.specs.Num.{leAt}
+use lib.Seq.{drop-cons}
+use Rattle.records.specs.Num.{leAt, leNum, part}
 use Rattle.records.specs.Layout.{jobSize}
 use Rattle.bundle.specs.Contents.{wordsFrom, jobsFrom}
 use Rattle.records.specs.declared.Heading.{Heading}
@@ -25,3 +26,8 @@ pub jobs-count : (h : Heading) (bs : List ℕ) (n at : ℕ) → length (jobsFrom
 unfolding jobsFrom
 jobs-count h bs zero at = refl
 jobs-count h bs (suc n) at = ap suc (jobs-count h bs n (at + jobSize h))
+
+-- one byte spells itself
+pub one-byte : (bs : List ℕ) (a : ℕ) → a < length bs → leAt 1 bs a ≡ getD bs a 0
+unfolding leAt leNum part
+one-byte bs a h = rw (drop-cons bs a 0 h) (omega arith)

@@ -15,10 +15,10 @@ use Rattle.words.proofs.Refusal.{pass, stop, first-none, first-some, first-left
 use Rattle.records.specs.Layout.{recordSize, headSize, jobLen, fileSize, orderKind, orderLen, orderSize}
 use Rattle.records.specs.Record.{framed, headingOf}
 use Rattle.bundle.specs.Bundle.{numOf, headingFault, jobFaultAt, prevNum, jobFault, fileFaultAt, fileFault, placeAt, prevHolder, filesIn}
-use Rattle.bundle.specs.Bundle.{placeFault, filesFault, bundleFault, checked}
-use Rattle.bundle.specs.declared.Checked.the-variants.{Files, Refused}
+use Rattle.bundle.specs.Bundle.{faultOfFile, filesFault, bundleFault}
+use Rattle.bundle.specs.Acceptance.{FileOk}
 use Rattle.records.proofs.Lengths.{head-low, file-low}
-use Rattle.bundle.proofs.Headings.{same-file, HeadingOk, heading-ok, job-ok}
+use Rattle.bundle.proofs.Headings.{same-file, heading-ok, job-ok}
 
 -- ---- a run of jobs
 
@@ -56,13 +56,6 @@ module _ (bs : List ℕ) (len base at p f q prev : ℕ) (j : JobsAt bs len base 
       }
 
 -- ---- a file
-
--- what a file with no fault says
-pub record FileOk (bs : List ℕ) (base prev at : ℕ) : Type 0 where
-  pub heading : HeadingOk bs base prev at
-  pub jobs : (p : ℕ) → p < headingOf bs at .jobs →
-      jobFault bs (jobLen (headingOf bs at)) (base + headSize (headingOf bs at)) (at + headSize (headingOf bs at)) p ≡ 0
-  pub within : at + fileSize (headingOf bs at) ≤ length bs
 
 -- a run of jobs with no fault is within the bytes
 run-within : (bs : List ℕ) (len base at n : ℕ) → at ≤ length bs → ((p : ℕ) → p < n → jobFault bs len base at p ≡ 0) → at + n * recordSize len ≤
@@ -102,7 +95,7 @@ pub record FilesAt (bs : List ℕ) (start f at prev : ℕ) : Type 0 where
   pub at-is : at ≡ placeAt bs start f
   pub within : at ≤ length bs
   pub prev-is : prev ≡ prevHolder bs start f
-  pub none : firstOf (placeFault bs start) f ≡ 0
+  pub none : firstOf (faultOfFile bs start) f ≡ 0
 
 module _ (bs : List ℕ) (start : ℕ) where
   pub files-start : start ≤ length bs → FilesAt bs start 0 start 0
@@ -133,15 +126,15 @@ module _ (bs : List ℕ) (start : ℕ) where
 
 module _ (bs : List ℕ) (start f at prev : ℕ) (j : FilesAt bs start f at prev) where
   module _ (l : at < length bs) where
-    pub files-here : placeFault bs start f ≡ fileFaultAt bs start prev at
-    unfolding placeFault
+    pub files-here : faultOfFile bs start f ≡ fileFaultAt bs start prev at
+    unfolding faultOfFile
     files-here =
         let m : placeAt bs start f < length bs = omega (arith, j .at-is) in
         rw (lt-ltb (placeAt bs start f) (length bs) m, j .at-is, j .prev-is)
 
-    pub files-stop : (fileFaultAt bs start prev at ≡ 0 → ⊥) → firstOf (placeFault bs start) (length bs) ≡ fileFaultAt bs start prev at
+    pub files-stop : (fileFaultAt bs start prev at ≡ 0 → ⊥) → firstOf (faultOfFile bs start) (length bs) ≡ fileFaultAt bs start prev at
     files-stop h =
-        firstOf-stop (placeFault bs start) f (length bs) (j .none) (λ e. h (sym files-here ∙ e)) (omega (arith, place-low bs start f, j .at-is))
+        firstOf-stop (faultOfFile bs start) f (length bs) (j .none) (λ e. h (sym files-here ∙ e)) (omega (arith, place-low bs start f, j .at-is))
         ∙ files-here
 
     pub files-next : fileFaultAt bs start prev at ≡ 0 →
@@ -154,16 +147,16 @@ module _ (bs : List ℕ) (start f at prev : ℕ) (j : FilesAt bs start f at prev
           at-is = omega (arith, j .at-is);
           within = k .within;
           prev-is = rw (add-one, j .at-is);
-          none = rw add-one (firstOf-more (placeFault bs start) f (j .none) ∙ files-here ∙ e);
+          none = rw add-one (firstOf-more (faultOfFile bs start) f (j .none) ∙ files-here ∙ e);
         }
 
   module _ (l : length bs ≤ at) where
-    pub files-none : firstOf (placeFault bs start) (length bs) ≡ 0
-    unfolding placeFault
+    pub files-none : firstOf (faultOfFile bs start) (length bs) ≡ 0
+    unfolding faultOfFile
     files-none =
-        firstOf-zero (placeFault bs start) (length bs)
+        firstOf-zero (faultOfFile bs start) (length bs)
         (λ i h. elim (decLe (suc i) f) [
-          | yes m ↦ firstOf-each (placeFault bs start) f i (j .none) m
+          | yes m ↦ firstOf-each (faultOfFile bs start) f i (j .none) m
           | no m ↦ (let b : length bs ≤ placeAt bs start i = omega (arith, place-mono bs start f i (omega arith), j .at-is) in
               rw (le-ltb (placeAt bs start i) (length bs) b))
         ])
@@ -179,7 +172,7 @@ module _ (bs : List ℕ) (start : ℕ) where
   unfolding filesFault
   files-empty h = stop (ltb start (length bs)) 7 _ (lit< tt) (le-ltb start (length bs) h)
 
-  pub files-some : start < length bs → filesFault bs start ≡ firstOf (placeFault bs start) (length bs)
+  pub files-some : start < length bs → filesFault bs start ≡ firstOf (faultOfFile bs start) (length bs)
   unfolding filesFault
   files-some h = pass (ltb start (length bs)) 7 _ (lt-ltb start (length bs) h)
 
@@ -191,22 +184,3 @@ module _ (bs : List ℕ) where
   pub bundle-files : framed bs orderKind orderLen 0 ≡ true → bundleFault bs ≡ filesFault bs orderSize
   unfolding bundleFault
   bundle-files o = pass (framed bs orderKind orderLen 0) 7 _ o
-
-pub checked-refused : (c n : ℕ) → (c ≡ 0 → ⊥) → checked c n ≡ Refused c
-unfolding checked
-checked-refused zero n z = absurd (z refl)
-checked-refused (suc c) n z = refl
-
-pub checked-files : (n : ℕ) → checked 0 n ≡ Files n
-unfolding checked
-checked-files n = refl
-
-pub files-are : (c m n : ℕ) → checked c m ≡ Files n → (c ≡ 0) × (n ≡ m)
-unfolding checked
-files-are zero m n q = (refl, (cc))
-files-are (suc c) m n q = absurd (let z : _≡_ {A = ℕ} 0 1 = cc in omega arith)
-
-pub refused-is : (c m r : ℕ) → checked c m ≡ Refused r → (c ≡ r) × (r ≡ 0 → ⊥)
-unfolding checked
-refused-is zero m r q = absurd (let z : _≡_ {A = ℕ} 0 1 = cc in omega arith)
-refused-is (suc c) m r q = (let z : suc c ≡ r = cc in (z, λ k. omega arith))

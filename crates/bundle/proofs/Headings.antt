@@ -5,27 +5,24 @@ use mathlib.Core.List.{List}
 use mathlib.Core.Bool.{true, false, _||_}
 use lib.Dec.{ltb, eqb, lit<}
 use borrow.Author.Tests.{le-leb, lt-ltb, eq-eqb, leb-true, ltb-true, eqb-true}
-use Rattle.words.specs.Refusal.{unless}
+use Rattle.words.specs.Refusal.{first, unless}
 use Rattle.words.specs.Params.{paramsOk}
 use Rattle.words.specs.declared.Params.{Params}
 use Rattle.words.proofs.Tests.{and-left, and-right, and-both, and-yes, and-no}
 use Rattle.words.proofs.Refusal.{pass, stop, first-left, first-right, unless-held, unless-yes}
-use Rattle.words.proofs.InRange.{InRange, range-ok, ok-range}
+use Rattle.words.proofs.InRange.{InRange, ok-range}
 use Rattle.records.specs.Layout.{recordSize, headKind, headLen, headSize, wordSize, jobKind, jobLenOf, jobLen, fileSize}
-use Rattle.records.specs.Record.{framed, headingOf}
+use Rattle.records.specs.Record.{framed, Frame, headingOf}
 use Rattle.bundle.specs.Bundle.{mostJobs, rangesOk, holderOk, sameParams, belongs, headingFault, numOf, jobFaultAt}
+use Rattle.bundle.specs.Acceptance.{Same, HeadingOk}
 use Rattle.records.specs.declared.Heading.{Heading}
-use Rattle.records.proofs.Record.{Frame, framed-frame, frame-framed}
+use Rattle.records.proofs.Record.{framed-frame, frame-framed}
 
 -- ---- ranges and belonging, as tests and as facts
 
 pub record Ranges (h : Heading) : Type 0 where
   pub book : InRange (h .params)
   pub jobs-high : h .jobs ≤ mostJobs
-
-pub ranges-ok : (h : Heading) → Ranges h → rangesOk h ≡ true
-unfolding rangesOk
-ranges-ok h r = and-both _ _ (range-ok (h .params) (r .book)) (le-leb (h .jobs) mostJobs (r .jobs-high))
 
 pub ok-ranges : (h : Heading) → rangesOk h ≡ true → Ranges h
 unfolding rangesOk
@@ -55,12 +52,6 @@ params-same a b e₁ =
     let p₃ : a .n ≡ b .n = eqb-true _ _ (and-left (eqb (a .n) (b .n)) _ e₃) in
     let p₄ : a .t ≡ b .t = eqb-true _ _ (and-right (eqb (a .n) (b .n)) _ e₃) in
     λ i. record { k = p₁ i; d = p₂ i; n = p₃ i; t = p₄ i }
-
--- headings that differ in the holder alone
-pub record Same (a b : Heading) : Type 0 where
-  pub params-is : a .params ≡ b .params
-  pub archive-is : a .archive ≡ b .archive
-  pub jobs-is : a .jobs ≡ b .jobs
 
 pub same-self : (h : Heading) → Same h h
 same-self h = record { params-is = refl; archive-is = refl; jobs-is = refl }
@@ -105,19 +96,10 @@ module _ (bs : List ℕ) (base prev at : ℕ) where
   unfolding headingFault
   heading-7 e = stop (framed bs (headKind (headingOf bs at)) (headLen (headingOf bs at)) at) 7 _ (lit< tt) e
 
-  module _ (f : framed bs (headKind (headingOf bs at)) (headLen (headingOf bs at)) at ≡ true) where
-    pub heading-1 : rangesOk (headingOf bs at) ≡ false → headingFault bs base prev at ≡ 1
-    unfolding headingFault
-    heading-1 e = pass _ 7 _ f ∙ stop (rangesOk (headingOf bs at)) 1 _ (lit< tt) e
-
-    module _ (b : rangesOk (headingOf bs at) ≡ true) where
-      pub heading-4 : holderOk prev (headingOf bs at) ≡ false → headingFault bs base prev at ≡ 4
-      unfolding headingFault
-      heading-4 e = pass _ 7 _ f ∙ pass (rangesOk (headingOf bs at)) 1 _ b ∙ stop (holderOk prev (headingOf bs at)) 4 _ (lit< tt) e
-
-      pub heading-8 : holderOk prev (headingOf bs at) ≡ true → headingFault bs base prev at ≡ unless (belongs (headingOf bs base) (headingOf bs at)) 8
-      unfolding headingFault
-      heading-8 e = pass _ 7 _ f ∙ pass (rangesOk (headingOf bs at)) 1 _ b ∙ pass (holderOk prev (headingOf bs at)) 4 _ e
+  pub heading-rest : framed bs (headKind (headingOf bs at)) (headLen (headingOf bs at)) at ≡ true → let h = headingOf bs at in
+      headingFault bs base prev at ≡ first (unless (rangesOk h) 1) (first (unless (holderOk prev h) 4) (unless (belongs (headingOf bs base) h) 8))
+  unfolding headingFault
+  heading-rest f = pass _ 7 _ f
 
 -- the test of a holder
 pub holder-ok : (prev : ℕ) (h : Heading) → prev < h .holder → h .holder ≤ h .params .n → holderOk prev h ≡ true
@@ -130,13 +112,6 @@ ok-holder prev h e =
     (ltb-true prev (h .holder) (and-left _ _ e), leb-true (h .holder) (h .params .n) (and-right (ltb prev (h .holder)) _ e))
 
 -- what a heading with no fault says
-pub record HeadingOk (bs : List ℕ) (base prev at : ℕ) : Type 0 where
-  pub frame : Frame bs (headKind (headingOf bs at)) (headLen (headingOf bs at)) at
-  pub ranges : Ranges (headingOf bs at)
-  pub rises : prev < headingOf bs at .holder
-  pub within : headingOf bs at .holder ≤ headingOf bs at .params .n
-  pub same : Same (headingOf bs base) (headingOf bs at)
-
 module _ (bs : List ℕ) (base prev at : ℕ) where
   pub heading-ok : headingFault bs base prev at ≡ 0 → HeadingOk bs base prev at
   unfolding headingFault
@@ -149,7 +124,7 @@ module _ (bs : List ℕ) (base prev at : ℕ) where
       record {
         frame = framed-frame bs (headKind h) (headLen h) at (unless-held _ 7 (lit< tt)
             (first-left (unless (framed bs (headKind h) (headLen h) at) 7) _ e₁));
-        ranges = ok-ranges h (unless-held _ 1 (lit< tt) (first-left (unless (rangesOk h) 1) _ e₂));
+        ranges = unless-held _ 1 (lit< tt) (first-left (unless (rangesOk h) 1) _ e₂);
         rises = t .0;
         within = t .1;
         same = belongs-same (headingOf bs base) h (unless-held _ 8 (lit< tt) e₄);
@@ -158,8 +133,9 @@ module _ (bs : List ℕ) (base prev at : ℕ) where
   pub ok-heading : HeadingOk bs base prev at → headingFault bs base prev at ≡ 0
   ok-heading k =
       let h = headingOf bs at in
-      heading-8 bs base prev at (frame-framed bs (headKind h) (headLen h) at (k .frame)) (ranges-ok h (k .ranges))
-      (holder-ok prev h (k .rises) (k .within))
+      heading-rest bs base prev at (frame-framed bs (headKind h) (headLen h) at (k .frame))
+      ∙ pass (rangesOk h) 1 _ (k .ranges)
+      ∙ pass (holderOk prev h) 4 _ (holder-ok prev h (k .rises) (k .within))
       ∙ unless-yes _ 8 (same-belongs (headingOf bs base) h (k .same))
 
 -- ---- the fault of a job record, case by case

@@ -1,4 +1,4 @@
 pub mod Headings
 pub mod Files
-pub mod Accepted
+pub mod Bundles
 pub mod Contents

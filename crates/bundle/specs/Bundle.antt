@@ -5,18 +5,17 @@
 -- byte order counts". Assumes nothing.
 use Prim.Native.Nat.{ℕ, zero, suc, _+_, _-_, _*_, _/_}
 use mathlib.Core.List.{List}
-use mathlib.Core.Bool.{Bool, true, false, _&&_, _||_}
-use lib.ListN.{length}
+use mathlib.Core.Bool.{Bool, cond, _&&_, _||_}
+use lib.ListN.{length, getD}
 use lib.Dec.{leb, ltb, eqb}
-use Rattle.words.specs.Refusal.{first, unless, firstOf}
+use Rattle.words.specs.Refusal.{first, unless, firstOf, kept, PARAMETERS, HOLDER, MALFORMED, MISMATCHED}
 use Rattle.words.specs.Params.{paramsOk}
 use Rattle.words.specs.declared.Params.{Params}
 use Rattle.records.specs.Num.{leAt}
 use Rattle.records.specs.Layout.{bodyAt, recordSize, headKind, headLen, headSize, jobKind, jobLen, jobSize, orderKind, orderLen, orderSize, fileSize}
 use Rattle.records.specs.Record.{framed, headingOf}
 use Rattle.records.specs.declared.Heading.{Heading}
-use Rattle.bundle.specs.declared.Checked.{Checked}
-use Rattle.bundle.specs.declared.Checked.the-variants.{Files, Refused}
+use Rattle.bundle.specs.declared.Accepted.{Accepted}
 
 -- "1 | k, d, n, t or J is outside its range", J being "0 to 1,000"
 abbrev pub mostJobs : ℕ
@@ -44,15 +43,16 @@ numOf bs at = leAt 8 bs (bodyAt at)
 unfoldable pub headingFault : List ℕ → ℕ → ℕ → ℕ → ℕ
 headingFault bs base prev at =
     let h = headingOf bs at in
-    first (unless (framed bs (headKind h) (headLen h) at) 7)
-    (first (unless (rangesOk h) 1) (first (unless (holderOk prev h) 4) (unless (belongs (headingOf bs base) h) 8)))
+    first (unless (framed bs (headKind h) (headLen h) at) MALFORMED)
+    (first (unless (rangesOk h) PARAMETERS)
+    (first (unless (holderOk prev h) HOLDER) (unless (belongs (headingOf bs base) h) MISMATCHED)))
 
 -- "inside one job 7, 8": the job record at a position, of length len and of place p, after a job of number prev; this place's record is at base in
 -- the first file. Job numbers are "strictly rising" (7), and equal "place by place" (8).
 unfoldable pub jobFaultAt : List ℕ → ℕ → ℕ → ℕ → ℕ → ℕ → ℕ
 jobFaultAt bs len base prev p at =
-    first (unless (framed bs jobKind len at && (eqb p 0 || ltb prev (numOf bs at))) 7)
-    (unless (eqb (numOf bs base) (numOf bs at)) 8)
+    first (unless (framed bs jobKind len at && (eqb p 0 || ltb prev (numOf bs at))) MALFORMED)
+    (unless (eqb (numOf bs base) (numOf bs at)) MISMATCHED)
 
 -- the number of the job before place p, of the jobs whose records begin at a position
 unfoldable pub prevNum : List ℕ → ℕ → ℕ → ℕ → ℕ
@@ -71,7 +71,7 @@ fileFaultAt bs base prev at =
 
 -- the first fault of bytes that should be one file: "bytes follow where a file must end" is the last
 unfoldable pub fileFault : List ℕ → ℕ
-fileFault bs = first (fileFaultAt bs 0 0 0) (unless (eqb (length bs) (fileSize (headingOf bs 0))) 7)
+fileFault bs = first (fileFaultAt bs 0 0 0) (unless (eqb (length bs) (fileSize (headingOf bs 0))) MALFORMED)
 
 -- files that stand one after another from a position: where file f stands, the holder of the file before it, and how many there are if there is no
 -- fault
@@ -86,24 +86,23 @@ unfoldable pub filesIn : List ℕ → ℕ → ℕ
 filesIn bs start = (length bs - start) / fileSize (headingOf bs start)
 
 -- the first fault of file f, where the bytes have not ended before it
-abbrev pub when : Bool → ℕ → ℕ
-when true c = c
-when false c = 0
-
-unfoldable pub placeFault : List ℕ → ℕ → ℕ → ℕ
-placeFault bs start f = when (ltb (placeAt bs start f) (length bs)) (fileFaultAt bs start (prevHolder bs start f) (placeAt bs start f))
+unfoldable pub faultOfFile : List ℕ → ℕ → ℕ → ℕ
+faultOfFile bs start f = cond (ltb (placeAt bs start f) (length bs)) (fileFaultAt bs start (prevHolder bs start f) (placeAt bs start f)) 0
 
 -- "one file or more, holders strictly rising"
 unfoldable pub filesFault : List ℕ → ℕ → ℕ
-filesFault bs start = first (unless (ltb start (length bs)) 7) (firstOf (placeFault bs start) (length bs))
+filesFault bs start = first (unless (ltb start (length bs)) MALFORMED) (firstOf (faultOfFile bs start) (length bs))
 
 -- "A bundle is one order and then one file or more": the first fault of bytes that should be a bundle
 unfoldable pub bundleFault : List ℕ → ℕ
-bundleFault bs = first (unless (framed bs orderKind orderLen 0) 7) (filesFault bs orderSize)
+bundleFault bs = first (unless (framed bs orderKind orderLen 0) MALFORMED) (filesFault bs orderSize)
 
--- of a bundle that has no fault: its first heading, its number of files, where file f and its job p stand
+-- of a bundle that has no fault: its first heading, its number of files, where file f and its job p stand, the holder of file f
 abbrev pub bundleHeading : List ℕ → Heading
 bundleHeading bs = headingOf bs orderSize
+
+abbrev pub paramsOf : List ℕ → Params
+paramsOf bs = bundleHeading bs .params
 
 abbrev pub filesOf : List ℕ → ℕ
 filesOf bs = filesIn bs orderSize
@@ -114,7 +113,21 @@ fileAt bs f = placeAt bs orderSize f
 unfoldable pub jobAt : List ℕ → ℕ → ℕ → ℕ
 jobAt bs f p = fileAt bs f + headSize (bundleHeading bs) + p * jobSize (bundleHeading bs)
 
--- what checking bytes gives: the number of files, or the first fault
-unfoldable pub checked : ℕ → ℕ → Checked
-checked zero n = Files n
-checked (suc c) n = Refused (suc c)
+abbrev pub holderOf : List ℕ → ℕ → ℕ
+holderOf bs f = headingOf bs (fileAt bs f) .holder
+
+-- "e is the order's allowance", "one byte"
+abbrev pub allowanceOf : List ℕ → ℕ
+allowanceOf bs = getD bs (bodyAt 0) 0
+
+-- what accepting bytes gives: the first fault, and of a bundle that has none its number of files and its first heading, else zeros
+abbrev pub noHeading : Heading
+noHeading = record { params = record { k = 0; d = 0; n = 0; t = 0 }; holder = 0; archive = 0; jobs = 0 }
+
+unfoldable pub accepted : List ℕ → Accepted
+accepted bs =
+    record {
+      fault = bundleFault bs;
+      files = kept (bundleFault bs) 0 (filesOf bs);
+      heading = kept (bundleFault bs) noHeading (bundleHeading bs);
+    }

@@ -1,11 +1,10 @@
 -- What stands in the bytes of a file or a bundle that has no fault. Assumes nothing.
 use Prim.Native.Nat.{ℕ, zero, suc, _+_}
 use mathlib.Core.List.{List, [], _∷_}
-use lib.ListN.{getD}
 use Rattle.records.specs.Num.{leAt}
-use Rattle.records.specs.Layout.{bodyAt, wordsAt, wordSize, headSize, jobSize, orderSize, fileSize}
+use Rattle.records.specs.Layout.{wordsAt, wordSize, headSize, jobSize, orderSize, fileSize}
 use Rattle.records.specs.Record.{headingOf}
-use Rattle.bundle.specs.Bundle.{numOf, jobAt, bundleHeading, filesOf}
+use Rattle.bundle.specs.Bundle.{numOf, jobAt, bundleHeading, paramsOf, filesOf, allowanceOf}
 use Rattle.records.specs.declared.Heading.{Heading}
 
 -- "job number (8 bytes), then d words"
@@ -47,10 +46,10 @@ filesFrom bs size (suc n) at = fileFrom bs at ∷ filesFrom bs size n (at + size
 unfoldable pub bundleFrom : List ℕ → Bundle
 bundleFrom bs =
     record {
-      allowance = getD bs (bodyAt 0) 0;
+      allowance = allowanceOf bs;
       files = filesFrom bs (fileSize (bundleHeading bs)) (filesOf bs) orderSize;
     }
 
 -- the words of job p of file f of a bundle that has no fault
 unfoldable pub wordsOf : List ℕ → ℕ → ℕ → List ℕ
-wordsOf bs f p = wordsFrom (wordSize (bundleHeading bs)) bs (bundleHeading bs .params .d) (wordsAt (jobAt bs f p))
+wordsOf bs f p = wordsFrom (wordSize (bundleHeading bs)) bs (paramsOf bs .d) (wordsAt (jobAt bs f p))

@@ -7,17 +7,18 @@ ghost use lib.Dec.{eqb, ltb};
 ghost use Rattle.words.specs.Refusal.{firstOf};
 ghost use Rattle.records.specs.Layout.{jobKind, known};
 ghost use Rattle.bundle.specs.Bundle.{rangesOk, holderOk, sameParams, belongs, headingFault, jobFaultAt, jobFault, fileFaultAt, fileFault};
-ghost use Rattle.bundle.specs.Bundle.{filesIn, filesFault, bundleFault, filesOf, checked};
+ghost use Rattle.bundle.specs.Bundle.{filesFault, bundleFault, noHeading, accepted, allowanceOf};
 use records::Heading;
 use words::Params;
 
 // The most jobs of a file.
 pub const MOST_JOBS: usize = 1000;
 
-// What checking bytes gives: the number of files, or the first fault.
-pub enum Checked {
-    Files(usize),
-    Refused(u8),
+// What accepting bytes gives: the first fault, or 0 with the bundle's number of files and first heading.
+pub struct Accepted {
+    pub fault: u8,
+    pub files: usize,
+    pub heading: Heading,
 }
 
 // Whether parameters and a count of jobs are in their ranges.
@@ -80,16 +81,13 @@ fn heading_fault(bytes: &[u8], base: usize, prev: usize, at: usize) -> u8
         return words::MALFORMED;
     }
     let h = records::heading_at(bytes, at);
-    if !ranges_ok(h) {
-        return words::PARAMETERS;
-    }
-    if !holder_ok(prev, h) {
-        return words::HOLDER;
-    }
-    if !belong(records::heading_at(bytes, base), h) {
-        return words::MISMATCHED;
-    }
-    0
+    let ranges = words::unless(ranges_ok(h), words::PARAMETERS);
+    let holder = words::unless(holder_ok(prev, h), words::HOLDER);
+    let same = words::unless(
+        belong(records::heading_at(bytes, base), h),
+        words::MISMATCHED,
+    );
+    words::first(ranges, words::first(holder, same))
 }
 
 // Whether a job number may stand at place p, after the number prev.
@@ -114,10 +112,10 @@ fn job_fault(bytes: &[u8], len: usize, base: usize, prev: u64, p: usize, at: usi
     if !rises(p, prev, num) {
         return words::MALFORMED;
     }
-    if records::word_at(bytes, base + records::PREFIX_SIZE) != num {
-        return words::MISMATCHED;
-    }
-    0
+    words::unless(
+        records::word_at(bytes, base + records::PREFIX_SIZE) == num,
+        words::MISMATCHED,
+    )
 }
 
 // The first fault of a run of job records.
@@ -171,42 +169,84 @@ pub fn check_file(bytes: &[u8]) -> u8
         return fault;
     }
     let h = records::heading_at(bytes, 0);
-    if bytes.len() == records::file_size(h) {
-        0
-    } else {
-        words::MALFORMED
-    }
+    words::unless(bytes.len() == records::file_size(h), words::MALFORMED)
 }
 
-// Reads all the bytes from start on as files that belong together: their number, or the first fault.
-pub fn check_files(bytes: &[u8], start: usize) -> Checked
-    ensures { λ r. ⌜ r ≡ checked (filesFault (now (bytes .entry)) start) (filesIn (now (bytes .entry)) start) ⌝ }
+// The first fault of all the bytes from start on as files that belong together, or 0.
+pub fn files_fault(bytes: &[u8], start: usize) -> u8
+    ensures { λ r. ⌜ r ≡ filesFault (now (bytes .entry)) start ⌝ }
 {
     if bytes.len() <= start {
-        return Checked::Refused(words::MALFORMED);
+        return words::MALFORMED;
     }
     let mut at = start;
     let mut prev: usize = 0;
-    let mut files: usize = 0;
     while at < bytes.len() {
         let fault = file_fault(bytes, start, prev, at);
         if fault != 0 {
-            return Checked::Refused(fault);
+            return fault;
         }
         let h = records::heading_at(bytes, at);
         prev = h.holder;
         at += records::file_size(h);
-        files += 1;
     }
-    Checked::Files(files)
+    0
 }
 
-// Reads all of the bytes as a bundle: its number of files, or its first fault.
-pub fn check_bundle(bytes: &[u8]) -> Checked
-    ensures { λ r. ⌜ r ≡ checked (bundleFault (now (bytes .entry))) (filesOf (now (bytes .entry))) ⌝ }
+// The first fault of all the bytes as a bundle, or 0.
+pub fn bundle_fault(bytes: &[u8]) -> u8
+    ensures { λ r. ⌜ r ≡ bundleFault (now (bytes .entry)) ⌝ }
 {
     if !records::is_record(bytes, 0, records::ORDER_KIND, records::ORDER_LENGTH) {
-        return Checked::Refused(words::MALFORMED);
+        return words::MALFORMED;
     }
-    check_files(bytes, records::ORDER_SIZE)
+    files_fault(bytes, records::ORDER_SIZE)
+}
+
+// What accepting bytes gives where they have a fault.
+fn refused(fault: u8) -> Accepted
+    ensures { λ r. ⌜ r ≡ (record { fault = fault; files = 0; heading = noHeading }) ⌝ }
+{
+    let params = Params {
+        k: 0,
+        d: 0,
+        n: 0,
+        t: 0,
+    };
+    let heading = Heading {
+        params,
+        holder: 0,
+        archive: 0,
+        jobs: 0,
+    };
+    Accepted {
+        fault,
+        files: 0,
+        heading,
+    }
+}
+
+// Reads all of the bytes as a bundle: its first fault, or its number of files and its first heading.
+pub fn accept(bytes: &[u8]) -> Accepted
+    ensures { λ r. ⌜ r ≡ accepted (now (bytes .entry)) ⌝ }
+{
+    let fault = bundle_fault(bytes);
+    if fault != 0 {
+        return refused(fault);
+    }
+    let heading = records::heading_at(bytes, records::ORDER_SIZE);
+    let files = (bytes.len() - records::ORDER_SIZE) / records::file_size(heading);
+    Accepted {
+        fault: 0,
+        files,
+        heading,
+    }
+}
+
+// The error bound of an accepted bundle: its order's one byte.
+pub fn allowance(bytes: &[u8]) -> u64
+    requires { ⌜ bundleFault (now bytes) ≡ 0 ⌝ }
+    ensures { λ r. ⌜ r ≡ allowanceOf (now (bytes .entry)) ⌝ }
+{
+    records::number(bytes, records::PREFIX_SIZE, 1)
 }

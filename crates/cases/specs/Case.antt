@@ -1,5 +1,5 @@
--- The stored cases of a program, a line each: fields with bars between them, and a field is text, a number, or numbers with spaces between them.
--- Assumes nothing.
+-- Internal: the stored cases of a program, a line each: fields with bars between them, and a field is text, a number, or numbers with spaces
+-- between them. Assumes nothing.
 use Prim.Native.Nat.{ℕ, zero, suc, _-_}
 use mathlib.Core.List.{List, [], _∷_}
 use lib.ListN.{take, drop}

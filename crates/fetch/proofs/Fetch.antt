@@ -1,24 +1,27 @@
--- Laws of a fetch: a search over files, each case, and that no fetch that succeeds gives an empty part. Assumes nothing.
-use mathlib.Core.Path.{_≡_, refl, sym, ap, _∙_}
+-- Laws of a fetch: a search over files, the refusals of a holder, a place and a run, each case of a call, and that no fetch that succeeds gives
+-- an empty part. Assumes nothing.
+use mathlib.Core.Path.{_≡_, refl, sym, ap, ap₂, _∙_}
 use Prim.Native.Nat.{ℕ, zero, suc, _+_, _-_, _≤_, _<_}
 use native.Mathlib.Omega.{arith}
-use mathlib.Core.List.{List, []}
-use mathlib.Core.Bool.{Bool, true, false}
-use lib.ListN.{length}
-use lib.Dec.{ltb, eqb, lit<}
-use borrow.Author.Tests.{lt-ltb, le-ltb, ltb-true, eqb-true, eq-eqb, ne-eqb}
-use Rattle.words.specs.Refusal.{unless}
-use Rattle.words.proofs.Tests.{bool-cases}
-use Rattle.words.proofs.Refusal.{pass, stop, first-none, first-some, first-left, first-right, unless-held}
+use mathlib.Core.List.{List, [], _∷_}
+use mathlib.Core.Bool.{Bool, true, false, cond}
+use lib.ListN.{length, getD, set}
+use lib.Dec.{leb, ltb, eqb, lit<}
+use borrow.Author.Tests.{le-leb, leb-true, lt-ltb, ltb-true, eqb-true, eq-eqb, ne-eqb}
+use Rattle.words.specs.Refusal.{first, unless, kept, HOLDER}
+use Rattle.words.specs.Faults.{lengthFault}
+use Rattle.words.proofs.Tests.{bool-cases, and-left, and-right, and-both}
+use Rattle.words.proofs.Refusal.{first-none, first-some, first-left, first-right, unless-held, unless-yes, kept-none, kept-some}
 use Rattle.records.specs.Num.{part}
 use Rattle.records.specs.Layout.{bodyAt, recordSize, bodySize, jobLen, fileSize, orderSize}
+use Rattle.records.specs.declared.Heading.{Heading}
+use Rattle.bundle.specs.Bundle.{bundleHeading, placeAt, bundleFault, filesOf, holderOf, jobAt, accepted}
+use Rattle.bundle.specs.declared.Accepted.{Accepted}
+use Rattle.fetch.specs.Fetch.{findFrom, fileOf, holderFault, placeFault, runFault, bodyFault, bodyOf, partOf, partFault}
 use Rattle.records.specs.Record.{headingOf}
-use Rattle.bundle.specs.Bundle.{bundleHeading, placeAt, fileAt, bundleFault, filesOf, jobAt}
-use Rattle.fetch.specs.Fetch.{pickPlace, findFrom, fileOf, foundOf, bodyFault, bodyOf}
-use Rattle.fetch.specs.declared.Found.the-variants.{At, Nothing}
 use Rattle.records.proofs.Num.{part-length}
 use Rattle.records.proofs.Lengths.{job-length-low}
-use Rattle.bundle.proofs.Accepted.{accepted, job-within}
+use Rattle.bundle.proofs.Bundles.{bundle-ok, job-within, accept-fault, accept-none, accept-files, accept-heading}
 
 -- ---- a search
 
@@ -42,18 +45,18 @@ unfolding findFrom
 find-holds t zero i h = absurd (omega arith)
 find-holds t (suc n) i h =
     bool-cases (t i) (λ e. rw (e, e))
-    (λ e. (let s : pickPlace (t i) i (findFrom t n (i + 1)) ≡ findFrom t n (i + 1) = rw e in
+    (λ e. (let s : cond (t i) i (findFrom t n (i + 1)) ≡ findFrom t n (i + 1) = rw e in
     rw s (find-holds t n (i + 1) (omega (arith, s)))))
 
 -- ---- the file of a holder
 
 -- the test of a file's holder
 abbrev pub holds : List ℕ → ℕ → ℕ → Bool
-holds bs holder f = eqb (headingOf bs (fileAt bs f) .holder) holder
+holds bs holder f = eqb (holderOf bs f) holder
 
 -- a loop over files, at file f: where it stands
 pub record FindAt (bs : List ℕ) (holder f at : ℕ) : Type 0 where
-  pub at-is : at ≡ fileAt bs f
+  pub at-is : at ≡ placeAt bs orderSize f
   pub low : f ≤ filesOf bs
   pub rest : findFrom (holds bs holder) (filesOf bs - f) f ≡ fileOf bs holder
 
@@ -64,12 +67,10 @@ find-start bs holder =
     record { at-is = omega arith; low = omega arith; rest = rw z }
 
 module _ (bs : List ℕ) (holder f at : ℕ) (j : FindAt bs holder f at) where
-  pub find-yes : f < filesOf bs → headingOf bs at .holder ≡ holder → foundOf bs holder ≡ At f
-  unfolding foundOf
+  pub find-yes : f < filesOf bs → headingOf bs at .holder ≡ holder → f ≡ fileOf bs holder
   find-yes l e =
       let h : holds bs holder f ≡ true = eq-eqb _ _ (ap (λ (x : ℕ). headingOf bs x .holder) (sym (j .at-is)) ∙ e) in
-      let q : fileOf bs holder ≡ f = sym (j .rest) ∙ find-here (holds bs holder) (filesOf bs - f) f (omega arith) h in
-      rw (q, lt-ltb f (filesOf bs) l)
+      sym (sym (j .rest) ∙ find-here (holds bs holder) (filesOf bs - f) f (omega arith) h)
 
   pub find-next : f < filesOf bs → (headingOf bs at .holder ≡ holder → ⊥) →
       FindAt bs holder (f + 1) (at + fileSize (bundleHeading bs))
@@ -83,50 +84,87 @@ module _ (bs : List ℕ) (holder f at : ℕ) (j : FindAt bs holder f at) where
         rest = rw z (sym (find-on (holds bs holder) (filesOf bs - f) f (omega arith) h) ∙ j .rest);
       }
 
-  pub find-no : filesOf bs ≤ f → foundOf bs holder ≡ Nothing
-  unfolding foundOf
+  pub find-no : filesOf bs ≤ f → f ≡ fileOf bs holder
   find-no l =
       let z : filesOf bs - f ≡ 0 = omega arith in
-      let q : fileOf bs holder ≡ f = sym (j .rest) ∙ ap (λ (x : ℕ). findFrom (holds bs holder) x f) z ∙ find-end (holds bs holder) f in
-      rw (q, le-ltb f (filesOf bs) l)
+      sym (sym (j .rest) ∙ ap (λ (x : ℕ). findFrom (holds bs holder) x f) z ∙ find-end (holds bs holder) f)
 
 -- the holder of the file that is found
-pub file-holder : (bs : List ℕ) (holder : ℕ) → fileOf bs holder < filesOf bs → headingOf bs (fileAt bs (fileOf bs holder)) .holder ≡ holder
+pub file-holder : (bs : List ℕ) (holder : ℕ) → fileOf bs holder < filesOf bs → holderOf bs (fileOf bs holder) ≡ holder
 unfolding fileOf
 file-holder bs holder h = eqb-true _ _ (find-holds (holds bs holder) (filesOf bs) 0 (omega arith))
 
-pub found-at : (bs : List ℕ) (holder f : ℕ) → foundOf bs holder ≡ At f → (f < filesOf bs) × (f ≡ fileOf bs holder)
-unfolding foundOf
-found-at bs holder f e =
-    bool-cases (ltb (fileOf bs holder) (filesOf bs))
-    (λ t. (let q : At (fileOf bs holder) ≡ At f = rw t at e in
-    let z : f ≡ fileOf bs holder = cc in
-    (rw z (ltb-true _ _ t), z)))
-    (λ t. absurd (let q : Nothing ≡ At f = rw t at e in let z : _≡_ {A = ℕ} 0 1 = cc in omega arith))
+-- ---- the refusals: what none of them says, and where there is none
 
-pub found-no : (bs : List ℕ) (holder : ℕ) → foundOf bs holder ≡ Nothing → ltb (fileOf bs holder) (filesOf bs) ≡ false
-unfolding foundOf
-found-no bs holder e =
-    bool-cases (ltb (fileOf bs holder) (filesOf bs))
-    (λ t. absurd (let q : At (fileOf bs holder) ≡ Nothing = rw t at e in let z : _≡_ {A = ℕ} 0 1 = cc in omega arith))
-    (λ t. t)
+pub holder-in : (bs : List ℕ) (holder : ℕ) → holderFault bs holder ≡ 0 → fileOf bs holder < filesOf bs
+unfolding holderFault
+holder-in bs holder e = ltb-true _ _ (unless-held _ 4 (lit< tt) e)
 
--- ---- the fetch, case by case
+pub holder-none : (bs : List ℕ) (holder : ℕ) → fileOf bs holder < filesOf bs → holderFault bs holder ≡ 0
+unfolding holderFault
+holder-none bs holder l = unless-yes _ 4 (lt-ltb _ _ l)
+
+pub place-in : (h : Heading) (p : ℕ) → placeFault h p ≡ 0 → p < h .jobs
+unfolding placeFault
+place-in h p e = ltb-true _ _ (unless-held _ 9 (lit< tt) e)
+
+pub place-none : (h : Heading) (p : ℕ) → p < h .jobs → placeFault h p ≡ 0
+unfolding placeFault
+place-none h p l = unless-yes _ 9 (lt-ltb _ _ l)
+
+pub run-in : (h : Heading) (a b : ℕ) → runFault h a b ≡ 0 → (a ≤ b) × (b ≤ h .jobs)
+unfolding runFault
+run-in h a b e =
+    let t = unless-held _ 9 (lit< tt) e in
+    (leb-true a b (and-left (leb a b) _ t), leb-true b (h .jobs) (and-right (leb a b) _ t))
+
+pub run-none : (h : Heading) (a b : ℕ) → a ≤ b → b ≤ h .jobs → runFault h a b ≡ 0
+unfolding runFault
+run-none h a b l u = unless-yes _ 9 (and-both _ _ (le-leb a b l) (le-leb b (h .jobs) u))
+
+-- the holder's, by the answer of accepting and of the search
+pub holder-told : (bs : List ℕ) (holder : ℕ) (r : Accepted) → r ≡ accepted bs → r .fault ≡ 0 → (f : ℕ) → f ≡ fileOf bs holder →
+    unless (ltb f (r .files)) HOLDER ≡ holderFault bs holder
+unfolding holderFault
+holder-told bs holder r e z f q = ap₂ (λ (x y : ℕ). unless (ltb x y) HOLDER) q (accept-files bs r e z)
+
+-- a declined call gives the number, and an output keeps its contents
+pub declined : (c v : ℕ) (old new : List ℕ) → c ≡ v → (v ≡ 0 → ⊥) → (v ≡ c) × (old ≡ kept c old new)
+declined c v old new e n = (sym e, sym (kept-some c old new (λ z. n (sym e ∙ z))))
+
+-- ---- the fetch
+
+-- its number, by the answer of accepting and of the search
+module _ (bs : List ℕ) (holder p : ℕ) (r : Accepted) (e : r ≡ accepted bs) where
+  pub body-refused : (r .fault ≡ 0 → ⊥) → r .fault ≡ bodyFault bs holder p
+  unfolding bodyFault
+  body-refused n =
+      let q = accept-fault bs r e in
+      q ∙ sym (first-some (bundleFault bs) _ (λ z. n (q ∙ z)))
+
+  pub body-told : r .fault ≡ 0 → (f : ℕ) → f ≡ fileOf bs holder →
+      first (unless (ltb f (r .files)) HOLDER) (placeFault (r .heading) p) ≡ bodyFault bs holder p
+  unfolding bodyFault
+  body-told z f q =
+      ap₂ first (holder-told bs holder r e z f q) (ap (λ (h : Heading). placeFault h p) (accept-heading bs r e z))
+      ∙ sym (first-none (bundleFault bs) _ (accept-none bs r e z))
+
+  module _ (n : ℕ) where
+    pub part-refused : (r .fault ≡ 0 → ⊥) → partFault bs holder p n ≡ r .fault
+    unfolding partFault
+    part-refused m =
+        let q = accept-fault bs r e in
+        first-some (bundleFault bs) _ (λ z. m (q ∙ z)) ∙ sym q
+
+    pub part-told : r .fault ≡ 0 → (f : ℕ) → f ≡ fileOf bs holder →
+        partFault bs holder p n ≡ first (unless (ltb f (r .files)) HOLDER) (first (lengthFault 2 n) (placeFault (r .heading) p))
+    unfolding partFault
+    part-told z f q =
+        first-none (bundleFault bs) _ (accept-none bs r e z)
+        ∙ ap₂ first (sym (holder-told bs holder r e z f q))
+        (ap (λ (h : Heading). first (lengthFault 2 n) (placeFault h p)) (sym (accept-heading bs r e z)))
 
 module _ (bs : List ℕ) (holder p : ℕ) where
-  pub body-refused : (bundleFault bs ≡ 0 → ⊥) → bodyFault bs holder p ≡ bundleFault bs
-  unfolding bodyFault
-  body-refused n = first-some (bundleFault bs) _ n
-
-  module _ (e : bundleFault bs ≡ 0) where
-    pub body-4 : ltb (fileOf bs holder) (filesOf bs) ≡ false → bodyFault bs holder p ≡ 4
-    unfolding bodyFault
-    body-4 q = first-none (bundleFault bs) _ e ∙ stop _ 4 _ (lit< tt) q
-
-    pub body-9 : fileOf bs holder < filesOf bs → bodyFault bs holder p ≡ unless (ltb p (bundleHeading bs .jobs)) 9
-    unfolding bodyFault
-    body-9 l = first-none (bundleFault bs) _ e ∙ pass _ 4 _ (lt-ltb (fileOf bs holder) (filesOf bs) l)
-
   -- a declined fetch gives an empty part, and one that succeeds the record's body
   pub body-empty : (c : ℕ) → (c ≡ 0 → ⊥) → bodyFault bs holder p ≡ c → bodyOf bs holder p ≡ []
   unfolding bodyOf
@@ -144,8 +182,8 @@ module _ (bs : List ℕ) (holder p : ℕ) where
   body-accepted e =
       let r = first-right (bundleFault bs) _ e in (
         first-left (bundleFault bs) _ e,
-        ltb-true _ _ (unless-held _ 4 (lit< tt) (first-left (unless (ltb (fileOf bs holder) (filesOf bs)) 4) _ r)),
-        ltb-true _ _ (unless-held _ 9 (lit< tt) (first-right (unless (ltb (fileOf bs holder) (filesOf bs)) 4) _ r)),
+        holder-in bs holder (first-left (holderFault bs holder) _ r),
+        place-in (bundleHeading bs) p (first-right (holderFault bs holder) _ r),
       )
 
   -- "an empty part, which no successful fetch gives"
@@ -153,7 +191,7 @@ module _ (bs : List ℕ) (holder p : ℕ) where
   unfolding recordSize bodySize
   body-length e =
       let t = body-accepted e in
-      let a = accepted bs (t .0) in
+      let a = bundle-ok bs (t .0) in
       ap length (body-part e)
       ∙ part-length bs (bodyAt (jobAt bs (fileOf bs holder) p)) (bodySize (jobLen (bundleHeading bs)))
       (omega (arith, job-within bs a (fileOf bs holder) p (t .1) (t .2), job-length-low (bundleHeading bs)))
@@ -161,3 +199,48 @@ module _ (bs : List ℕ) (holder p : ℕ) where
   pub body-some : bodyFault bs holder p ≡ 0 → bodyOf bs holder p ≡ [] → ⊥
   unfolding bodySize
   body-some e z = omega (arith, body-length e, ap length z, job-length-low (bundleHeading bs))
+
+-- ---- the part as offset and length
+
+-- two words, written in turn
+pub pair : (s : List ℕ) (a b : ℕ) → length s ≡ 2 → set (set s 0 a) 1 b ≡ a ∷ b ∷ []
+pair [] a b e = absurd (omega (arith, e))
+pair (x ∷ []) a b e = absurd (omega (arith, e))
+pair (x ∷ y ∷ []) a b e = refl
+pair (x ∷ y ∷ z ∷ s) a b e = absurd (omega (arith, e))
+
+module _ (bs : List ℕ) (holder p : ℕ) where
+  -- what a fetch that succeeds says
+  pub part-accepted : (n : ℕ) → partFault bs holder p n ≡ 0 →
+      (bundleFault bs ≡ 0) × (fileOf bs holder < filesOf bs) × (n ≡ 2) × (p < bundleHeading bs .jobs)
+  unfolding partFault lengthFault
+  part-accepted n e =
+      let r = first-right (bundleFault bs) _ e in
+      let q = first-right (holderFault bs holder) _ r in (
+        first-left (bundleFault bs) _ e,
+        holder-in bs holder (first-left (holderFault bs holder) _ r),
+        eqb-true n 2 (unless-held _ 2 (lit< tt) (first-left (unless (eqb n 2) 2) _ q)),
+        place-in (bundleHeading bs) p (first-right (unless (eqb n 2) 2) _ q),
+      )
+
+  -- the two words as they are written, by the record's position and length
+  pub part-written : (old : List ℕ) (at len : ℕ) → partFault bs holder p (length old) ≡ 0 → at ≡ jobAt bs (fileOf bs holder) p →
+      len ≡ jobLen (bundleHeading bs) → let c = partFault bs holder p (length old) in
+      (0 ≡ c) × (set (set old 0 (at + 6)) 1 (len - 2) ≡ kept c old (partOf bs (fileOf bs holder) p))
+  unfolding partOf bodySize
+  part-written old at len z e q = (
+    sym z,
+    pair old (at + 6) (len - 2) (part-accepted (length old) z .2)
+        ∙ ap₂ (λ (x y : ℕ). (x + 6) ∷ (y - 2) ∷ []) e q
+        ∙ sym (kept-none _ old (bodyAt (jobAt bs (fileOf bs holder) p) ∷ bodySize (jobLen (bundleHeading bs)) ∷ []) z),
+  )
+
+  -- "a sister call on the same inputs gives the number, or 0 where the fetch succeeds"
+  pub part-sister : partFault bs holder p 2 ≡ bodyFault bs holder p
+  unfolding partFault bodyFault lengthFault unless first
+  part-sister = refl
+
+  -- the part of the bundle that the two words name is the body
+  pub part-body : partFault bs holder p 2 ≡ 0 → let w = partOf bs (fileOf bs holder) p in part (getD w 0 0) (getD w 1 0) bs ≡ bodyOf bs holder p
+  unfolding partOf
+  part-body e = sym (body-part bs holder p (sym part-sister ∙ e))

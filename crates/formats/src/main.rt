@@ -5,7 +5,6 @@
 //   s HEX  a bundle: the numbers of all its beginnings, and then of each of its bytes changed to each of some values
 ghost use Prim.Native.Nat.{_≤_, _<_};
 ghost use lib.ListN.{length};
-use bundle::Checked;
 use libc::STDIN_FILENO;
 use libc::STDOUT_FILENO;
 use records::Cursor;
@@ -20,11 +19,8 @@ fn print(c: u8) {
 
 // One digit: the fault, or 0.
 fn digit(bytes: &[u8]) -> u8 {
-    let checked = bundle::check_bundle(bytes);
-    match checked {
-        Checked::Files(_) => b'0',
-        Checked::Refused(c) => b'0' + c % 10,
-    }
+    let accepted = bundle::accept(bytes);
+    b'0' + accepted.fault % 10
 }
 
 // The value of a hexadecimal digit.

@@ -8,11 +8,7 @@ use mathlib.Core.List.{List, [], _∷_, _++_}
 use lib.ListN.{length, getD, drop, length-take, length-drop, drop-of-length-le, List·getD-eq-default}
 use lib.Seq.{getD-take, getD-drop, take-add, drop-drop, drop-cons, take-length}
 use lib.Dec.{lit<}
-use Rattle.records.specs.Num.{part, leNum, leAt, leBytes}
-
--- every element is a byte
-abbrev pub Bytes : List ℕ → Type 0
-Bytes bs = (i : ℕ) → getD bs i 0 < 256
+use Rattle.records.specs.Num.{Bytes, part, leNum, leAt, leBytes}
 
 pub part-length : (bs : List ℕ) (a n : ℕ) → a + n ≤ length bs → length (part a n bs) ≡ n
 unfolding part

@@ -4,13 +4,14 @@ use Prim.Native.Nat.{ℕ, _+_, _-_, _≤_, _<_}
 use native.Mathlib.Omega.{arith}
 use native.Mathlib.Decide.{decLe}
 use mathlib.Core.List.{List}
-use mathlib.Core.Bool.{Bool, true, false, _&&_, and-true, and-false}
+use mathlib.Core.Bool.{Bool, true, false, cond, _&&_, and-true, and-false}
 use lib.ListN.{length}
 use lib.Dec.{leb, eqb}
 use borrow.Author.Tests.{le-leb, lt-leb, eq-eqb, ne-eqb, leb-true, eqb-true}
+use Rattle.words.specs.Refusal.{unless}
 use Rattle.words.proofs.Tests.{bool-cases, and-left, and-right}
 use Rattle.records.specs.Layout.{bodyAt, recordSize, bodySize, known}
-use Rattle.records.specs.Record.{lenAt, kindAt, whole, framed, pickRead, readAt, readNext}
+use Rattle.records.specs.Record.{lenAt, kindAt, whole, framed, Frame, readAt, readFault, cursorFault, readNext}
 use Rattle.records.specs.declared.Cursor.{Cursor}
 use Rattle.records.specs.declared.Read.{Read}
 use Rattle.records.specs.declared.Read.the-variants.{Record, End, Fault}
@@ -52,12 +53,17 @@ module _ (bs : List ℕ) (at : ℕ) where
     unfolding readAt whole
     read-record e h = simp (ne-eqb at (length bs) n, e, le-leb (at + recordSize (lenAt bs at)) (length bs) h)
 
--- what a frame says
-pub record Frame (bs : List ℕ) (kind len at : ℕ) : Type 0 where
-  pub kind-is : kindAt bs at ≡ kind
-  pub len-is : lenAt bs at ≡ len
-  pub within : at + recordSize len ≤ length bs
+  -- the number of what is read
+  pub read-fault : readFault (readAt bs at) ≡ cursorFault bs at
+  unfolding readAt readFault cursorFault unless
+  read-fault =
+      bool-cases (eqb at (length bs)) (λ e. rw e)
+      (λ e. bool-cases (whole bs at) (λ w. rw (e, w)) (λ w. rw (e, w)))
 
+  pub told : (r : Read) → r ≡ readAt bs at → (r ≡ readAt bs at) × (readFault r ≡ cursorFault bs at)
+  told r e = (e, ap readFault e ∙ read-fault)
+
+-- what a frame says
 pub framed-frame : (bs : List ℕ) (kind len at : ℕ) → framed bs kind len at ≡ true → Frame bs kind len at
 unfolding framed
 framed-frame bs kind len at e =
@@ -97,11 +103,11 @@ frame-read bs kind len at e f =
     read-record bs at (λ z. omega (arith, f .within)) k (rw (f .len-is) (f .within)) ∙ rw (f .kind-is, f .len-is)
 
 -- what a record that was read says
-pickRead-inv : (e w : Bool) (r : Read) (k s l : ℕ) (nx : Cursor) → pickRead e End (pickRead w r Fault) ≡ Record k s l nx → (w ≡ true) ×
+cond-inv : (e w : Bool) (r : Read) (k s l : ℕ) (nx : Cursor) → cond e End (cond w r Fault) ≡ Record k s l nx → (w ≡ true) ×
     (r ≡ Record k s l nx)
-pickRead-inv true w r k s l nx q = absurd (let z : _≡_ {A = ℕ} 0 1 = cc in omega arith)
-pickRead-inv false true r k s l nx q = (refl, q)
-pickRead-inv false false r k s l nx q = absurd (let z : _≡_ {A = ℕ} 0 1 = cc in omega arith)
+cond-inv true w r k s l nx q = absurd (let z : _≡_ {A = ℕ} 0 1 = cc in omega arith)
+cond-inv false true r k s l nx q = (refl, q)
+cond-inv false false r k s l nx q = absurd (let z : _≡_ {A = ℕ} 0 1 = cc in omega arith)
 
 module _ (bs : List ℕ) (at k s l : ℕ) (nx : Cursor) (q : readAt bs at ≡ Record k s l nx) where
   -- it is framed
@@ -109,7 +115,7 @@ module _ (bs : List ℕ) (at k s l : ℕ) (nx : Cursor) (q : readAt bs at ≡ Re
   unfolding readAt whole recordSize bodySize
   read-inv =
       let r : Read = Record (kindAt bs at) (bodyAt at) (bodySize (lenAt bs at)) (record { at = at + recordSize (lenAt bs at) }) in
-      let i = pickRead-inv (eqb at (length bs)) (whole bs at) r k s l nx q in
+      let i = cond-inv (eqb at (length bs)) (whole bs at) r k s l nx q in
       let m : 3 ≤ lenAt bs at = known-min (kindAt bs at) (lenAt bs at) (and-left (known (kindAt bs at) (lenAt bs at)) _ (i .0)) in
       let w : at + recordSize (lenAt bs at) ≤ length bs = leb-true _ _ (and-right (known (kindAt bs at) (lenAt bs at)) _ (i .0)) in
       let e : lenAt bs at - 2 ≡ l = (cc (i .1)) in
@@ -120,7 +126,7 @@ module _ (bs : List ℕ) (at k s l : ℕ) (nx : Cursor) (q : readAt bs at ≡ Re
   unfolding readAt whole recordSize
   read-next =
       let r : Read = Record (kindAt bs at) (bodyAt at) (bodySize (lenAt bs at)) (record { at = at + recordSize (lenAt bs at) }) in
-      let i = pickRead-inv (eqb at (length bs)) (whole bs at) r k s l nx q in
+      let i = cond-inv (eqb at (length bs)) (whole bs at) r k s l nx q in
       let w : at + recordSize (lenAt bs at) ≤ length bs = leb-true _ _ (and-right (known (kindAt bs at) (lenAt bs at)) _ (i .0)) in
       let e : nx .at ≡ at + recordSize (lenAt bs at) = ap (λ (c : Cursor). c .at)
       (let z : nx ≡ record { at = at + recordSize (lenAt bs at) } = cc (i .1) in z) in

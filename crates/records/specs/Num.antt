@@ -1,7 +1,11 @@
 -- Little-endian numbers in a list of bytes, paper 01, "Bytes of a file": "all little-endian". Assumes nothing.
-use Prim.Native.Nat.{ℕ, zero, suc, _+_, _*_, _/_, _%_}
+use Prim.Native.Nat.{ℕ, zero, suc, _+_, _*_, _/_, _%_, _<_}
 use mathlib.Core.List.{List, [], _∷_}
-use lib.ListN.{take, drop}
+use lib.ListN.{getD, take, drop}
+
+-- every element is a byte
+abbrev pub Bytes : List ℕ → Type 0
+Bytes bs = (i : ℕ) → getD bs i 0 < 256
 
 -- the n bytes from position a, or as many of them as there are
 unfoldable pub part : ℕ → ℕ → List ℕ → List ℕ

@@ -5,7 +5,7 @@ ghost use mathlib.Core.Bool.{true};
 ghost use lib.ListN.{length, getD};
 ghost use Rattle.records.specs.Num.{leAt};
 ghost use Rattle.records.specs.Layout.{headSize, wordSize, jobLen, fileSize, jobLenKnown, known};
-ghost use Rattle.records.specs.Record.{framed, readAt, headingOf};
+ghost use Rattle.records.specs.Record.{framed, readAt, readFault, cursorFault, headingOf};
 use words::Params;
 
 // Kinds of records.
@@ -162,7 +162,7 @@ impl Cursor {
 
     // Reads the record at the cursor, and looks at nothing else.
     pub fn read(self, bytes: &[u8]) -> Read
-        ensures { λ r. ⌜ r ≡ readAt (now (bytes .entry)) (self .at) ⌝ }
+        ensures { λ r. ⌜ (r ≡ readAt (now (bytes .entry)) (self .at)) × (readFault r ≡ cursorFault (now (bytes .entry)) (self .at)) ⌝ }
     {
         let at = self.at;
         if at == bytes.len() {

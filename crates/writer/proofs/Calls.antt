@@ -10,7 +10,8 @@ use lib.ListN.{length, getD, take, drop, length-drop, length-append}
 use lib.Seq.{drop-cons, take-suc, length-take-le, drop-drop}
 use lib.Dec.{ltb, eqb, lit<}
 use borrow.Author.Tests.{lt-ltb, le-ltb, eq-eqb, eqb-true}
-use Rattle.words.specs.Refusal.{unless}
+use Rattle.words.specs.Refusal.{first, unless}
+use Rattle.words.specs.Faults.{widthFault}
 use Rattle.words.specs.Word.{allInWidth}
 use Rattle.words.proofs.Tests.{and-left, and-right, and-both, and-yes, and-no}
 use Rattle.words.proofs.Refusal.{pass, stop, first-left, first-right, unless-held, unless-yes}
@@ -127,26 +128,10 @@ module _ (h : Heading) (ns ws : List ℕ) (size : ℕ) where
   unfolding writeFault
   write-1 e = stop (rangesOk h) 1 _ (lit< tt) e
 
-  module _ (a : rangesOk h ≡ true) where
-    pub write-2 : sizesOk h (length ws) size ≡ false → writeFault h ns ws size ≡ 2
-    unfolding writeFault
-    write-2 e = pass (rangesOk h) 1 _ a ∙ stop (sizesOk h (length ws) size) 2 _ (lit< tt) e
-
-    module _ (b : sizesOk h (length ws) size ≡ true) where
-      pub write-4 : holderOk 0 h ≡ false → writeFault h ns ws size ≡ 4
-      unfolding writeFault
-      write-4 e = pass (rangesOk h) 1 _ a ∙ pass (sizesOk h (length ws) size) 2 _ b ∙ stop (holderOk 0 h) 4 _ (lit< tt) e
-
-      module _ (c : holderOk 0 h ≡ true) where
-        pub write-7 : rising ns ≡ false → writeFault h ns ws size ≡ 7
-        unfolding writeFault
-        write-7 e =
-            pass (rangesOk h) 1 _ a ∙ pass (sizesOk h (length ws) size) 2 _ b ∙ pass (holderOk 0 h) 4 _ c ∙ stop (rising ns) 7 _ (lit< tt) e
-
-        pub write-3 : rising ns ≡ true → writeFault h ns ws size ≡ unless (allInWidth (h .params .k) ws) 3
-        unfolding writeFault
-        write-3 e =
-            pass (rangesOk h) 1 _ a ∙ pass (sizesOk h (length ws) size) 2 _ b ∙ pass (holderOk 0 h) 4 _ c ∙ pass (rising ns) 7 _ e
+  pub write-rest : rangesOk h ≡ true → writeFault h ns ws size ≡
+      first (unless (sizesOk h (length ws) size) 2) (first (unless (holderOk 0 h) 4) (first (unless (rising ns) 7) (widthFault (h .params .k) ws)))
+  unfolding writeFault
+  write-rest a = pass (rangesOk h) 1 _ a
 
 -- what a call that writes says of its lists
 pub record Writable (h : Heading) (ns ws : List ℕ) (size : ℕ) : Type 0 where
@@ -159,7 +144,7 @@ pub record Writable (h : Heading) (ns ws : List ℕ) (size : ℕ) : Type 0 where
 
 module _ (h : Heading) (ns ws : List ℕ) (size : ℕ) where
   pub writable : writeFault h ns ws size ≡ 0 → Writable h ns ws size
-  unfolding writeFault sizesOk
+  unfolding writeFault sizesOk widthFault
   writable e₁ =
       let e₂ = first-right (unless (rangesOk h) 1) _ e₁ in
       let e₃ = first-right (unless (sizesOk h (length ws) size) 2) _ e₂ in
@@ -175,9 +160,12 @@ module _ (h : Heading) (ns ws : List ℕ) (size : ℕ) where
       }
 
   pub writes : Writable h ns ws size → writeFault h ns ws size ≡ 0
-  unfolding sizesOk
+  unfolding sizesOk widthFault
   writes w =
-      write-3 h ns ws size (w .ranges) (and-both _ _ (eq-eqb _ _ (w .count)) (eq-eqb _ _ (w .room))) (w .holder) (w .rises)
+      write-rest h ns ws size (w .ranges)
+      ∙ pass (sizesOk h (length ws) size) 2 _ (and-both _ _ (eq-eqb _ _ (w .count)) (eq-eqb _ _ (w .room)))
+      ∙ pass (holderOk 0 h) 4 _ (w .holder)
+      ∙ pass (rising ns) 7 _ (w .rises)
       ∙ unless-yes (allInWidth (h .params .k) ws) 3 (w .width)
 
 -- the bytes of jobs from lent lists

@@ -12,21 +12,22 @@ use Rattle.words.proofs.Refusal.{first-none, unless-yes, firstOf-zero}
 use Rattle.records.specs.Num.{leBytes}
 use Rattle.records.specs.Layout.{bodyAt, wordsAt, recordSize, headKind, headLen, headSize, wordSize, jobKind, jobLen, jobSize, fileSize}
 use Rattle.records.specs.Layout.{orderKind, orderLen, orderSize}
-use Rattle.records.specs.Record.{headingOf}
+use Rattle.records.specs.Record.{Frame, headingOf}
 use Rattle.bundle.specs.Bundle.{numOf, jobFault, prevNum, fileFaultAt, fileFault, bundleFault, filesOf, bundleHeading}
+use Rattle.bundle.specs.Acceptance.{Same, HeadingOk}
 use Rattle.bundle.specs.Contents.{Job, File, Bundle, wordsFrom, jobFrom, jobsFrom, fileFrom, filesFrom, bundleFrom}
 use Rattle.records.specs.declared.Heading.{Heading}
 use Rattle.records.proofs.Num.{length-leBytes}
 use Rattle.records.proofs.Lengths.{head-low, file-low, job-high}
-use Rattle.records.proofs.Record.{Frame, frame-framed}
-use Rattle.bundle.proofs.Headings.{Same, same-self, same-file, same-head, same-job, HeadingOk, ok-heading, ok-job}
+use Rattle.records.proofs.Record.{frame-framed}
+use Rattle.bundle.proofs.Headings.{Ranges, ok-ranges, same-self, same-file, same-head, same-job, ok-heading, ok-job}
 use Rattle.bundle.proofs.Files.{FilesAt, files-start, files-next, files-none, files-count, files-some, bundle-files}
 use Rattle.writer.specs.Bytes.{headingBody, headingBytes, wordsBytes, jobBody, jobBytes, jobsBytes, fileBytes, filesBytes}
 use Rattle.writer.specs.Bytes.{orderBytes, bundleBytes}
 use Rattle.writer.specs.Write.{numbersIn}
+use Rattle.writer.specs.Fits.{JobFits, AllFit, a-job, FileFits, Chain, next, BundleFits}
 use Rattle.writer.proofs.Holds.{Holds, holds-all, left, right, tail, head, within, num-is, move, rec-body, rec-frame}
-use Rattle.writer.proofs.Fits.{JobFits, AllFit, a-job, FileFits, Chain, next, BundleFits, heading-body-length, heading-length}
-use Rattle.writer.proofs.Fits.{job-body-length, job-length, file-length, order-length}
+use Rattle.writer.proofs.Fits.{heading-body-length, heading-length, job-body-length, job-length, file-length, order-length}
 
 -- ---- a heading
 
@@ -141,8 +142,11 @@ module _ (f : File) (w : FileFits f) (bs : List ℕ) (at : ℕ) (q : Holds bs at
   unfolding fileBytes
   top = left (headingBytes (f .heading)) (jobsBytes (f .heading) (f .jobs)) q
 
+  ranges : Ranges (f .heading)
+  ranges = ok-ranges (f .heading) (w .ranges)
+
   count-fits : f .heading .jobs < 256 ^ 4
-  count-fits = omega (arith, w .ranges .jobs-high)
+  count-fits = omega (arith, ranges .jobs-high)
 
   pub file-heading : headingOf bs at ≡ f .heading
   file-heading = heading-is bs at (f .heading) (w .archive-fits) count-fits top
@@ -163,11 +167,11 @@ module _ (f : File) (w : FileFits f) (bs : List ℕ) (at : ℕ) (q : Holds bs at
       let j : jobsFrom (headingOf bs at) bs (headingOf bs at .jobs) (at + headSize (headingOf bs at)) ≡ f .jobs =
       ap (λ (x : Heading). jobsFrom x bs (x .jobs) (at + headSize x)) e
       ∙ ap (λ (n : ℕ). jobsFrom (f .heading) bs n (at + headSize (f .heading))) (sym (w .count))
-      ∙ jobs-are bs (f .heading) (w .ranges .book .d-high) (at + headSize (f .heading)) (f .jobs) (w .fit) file-jobs in
+      ∙ jobs-are bs (f .heading) (ranges .book .d-high) (at + headSize (f .heading)) (f .jobs) (w .fit) file-jobs in
       λ i. record { heading = e i; jobs = j i }
 
   num-at : (p : ℕ) → p < length (f .jobs) → numOf bs (at + headSize (f .heading) + p * jobSize (f .heading)) ≡ getD (numbersIn (f .jobs)) p 0
-  num-at p l = jobs-num bs (f .heading) (w .ranges .book .d-high) (at + headSize (f .heading)) (f .jobs) (w .fit) file-jobs p l
+  num-at p l = jobs-num bs (f .heading) (ranges .book .d-high) (at + headSize (f .heading)) (f .jobs) (w .fit) file-jobs p l
 
   -- its job numbers rise
   rises-at : (p : ℕ) → p < length (f .jobs) → let h = f .heading in
@@ -201,7 +205,7 @@ module _ (f : File) (w : FileFits f) (bs : List ℕ) (at : ℕ) (q : Holds bs at
         let s = headSize h in
         ok-job bs (jobLen h) (base + s + p * jobSize h) (prevNum bs (jobLen h) (at + s) p) p (at + s + p * jobSize h)
         (record {
-          frame = jobs-frame bs h (w .ranges .book .d-high) (at + s) (f .jobs) (w .fit) file-jobs p m;
+          frame = jobs-frame bs h (ranges .book .d-high) (at + s) (f .jobs) (w .fit) file-jobs p m;
           rises = rises-at p m;
           same = nums-same p m ∙ sym (num-at p m);
         })

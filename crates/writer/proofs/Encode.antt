@@ -9,18 +9,17 @@ use lib.Seq.{drop-cons}
 use lib.Dec.{lit<}
 use borrow.Author.Tests.{eqb-true}
 use Rattle.words.proofs.Refusal.{first-left, first-right, unless-held}
-use Rattle.records.specs.Num.{part, leBytes}
+use Rattle.records.specs.Num.{Bytes, part, leBytes}
 use Rattle.records.specs.Layout.{bodyAt, wordsAt, recordSize, bodySize, headKind, headLen, headSize, wordSize, jobKind, jobLenOf, jobLen, jobSize}
 use Rattle.records.specs.Layout.{fileSize, orderKind, orderLen, orderSize}
-use Rattle.records.specs.Record.{lenAt, kindAt, headingOf}
+use Rattle.records.specs.Record.{lenAt, kindAt, Frame, headingOf}
 use Rattle.bundle.specs.Bundle.{numOf, jobFault, prevNum, fileFaultAt, fileFault, placeAt, filesOf, prevHolder, bundleHeading, bundleFault}
 use Rattle.bundle.specs.Contents.{wordsFrom, jobFrom, jobsFrom, fileFrom, filesFrom, bundleFrom}
 use Rattle.records.specs.declared.Heading.{Heading}
-use Rattle.records.proofs.Num.{Bytes, part-split, part-length, part-all, leBytes-leAt}
-use Rattle.records.proofs.Record.{Frame}
+use Rattle.records.proofs.Num.{part-split, part-length, part-all, leBytes-leAt}
 use Rattle.bundle.proofs.Headings.{same-file, job-ok}
 use Rattle.bundle.proofs.Files.{file-ok}
-use Rattle.bundle.proofs.Accepted.{accepted, same-at}
+use Rattle.bundle.proofs.Bundles.{bundle-ok, same-at}
 use Rattle.writer.specs.Bytes.{recordBytes, headingBody, headingBytes, wordsBytes, jobBody, jobBytes, jobsBytes, fileBytes, filesBytes}
 use Rattle.writer.specs.Bytes.{orderBytes, bundleBytes}
 
@@ -135,7 +134,7 @@ module _ (bs : List ℕ) (b : Bytes bs) where
   pub bundle-written : bundleFault bs ≡ 0 → bundleBytes (bundleFrom bs) ≡ bs
   unfolding bundleBytes bundleFrom placeAt
   bundle-written e =
-      let a = accepted bs e in
+      let a = bundle-ok bs e in
       let h = bundleHeading bs in
       let s = fileSize h in
       ap₂ _++_ (order (a .order))

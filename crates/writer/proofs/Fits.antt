@@ -1,53 +1,18 @@
--- Values that can be written: files of jobs in their ranges, and bundles of files that belong together; and how many bytes they have. Assumes
--- nothing.
+-- How many bytes values have that can be written. Assumes nothing.
 use mathlib.Core.Path.{_≡_, ap, ap₂, _∙_}
-use Prim.Native.Nat.{ℕ, suc, _+_, _*_, _^_, _≤_, _<_}
+use Prim.Native.Nat.{ℕ, _+_, _*_}
 use native.Mathlib.Omega.{arith}
 use mathlib.Core.List.{List, [], _∷_, _++_}
-use lib.ListN.{length, getD, length-append}
+use lib.ListN.{length, length-append}
 use Rattle.records.specs.Num.{leBytes}
 use Rattle.records.specs.Layout.{recordSize, headLen, headSize, wordSize, jobKind, headKind, jobLenOf, jobLen, jobSize, fileSize, orderKind}
 use Rattle.records.specs.Layout.{orderSize}
 use Rattle.bundle.specs.Contents.{Job, File}
 use Rattle.records.specs.declared.Heading.{Heading}
 use Rattle.records.proofs.Num.{length-leBytes}
-use Rattle.bundle.proofs.Headings.{Ranges, Same}
 use Rattle.writer.specs.Bytes.{headingBody, headingBytes, wordsBytes, jobBody, jobBytes, jobsBytes, fileBytes, orderBytes}
-use Rattle.writer.specs.Write.{numbersIn}
+use Rattle.writer.specs.Fits.{AllFit, a-job, FileFits}
 use Rattle.writer.proofs.Holds.{record-length}
-
--- a job of d words that fit their bytes
-pub record JobFits (h : Heading) (j : Job) : Type 0 where
-  pub num-fits : j .num < 256 ^ 8
-  pub words-count : length (j .words) ≡ h .params .d
-  pub words-fit : (i : ℕ) → i < h .params .d → getD (j .words) i 0 < 256 ^ wordSize h
-
-pub data AllFit (h : Heading) : List Job → Type 0 where
-  no-job : AllFit h []
-  a-job : {j : Job} {js : List Job} → JobFits h j → AllFit h js → AllFit h (j ∷ js)
-
--- a file that can be written
-pub record FileFits (f : File) : Type 0 where
-  pub ranges : Ranges (f .heading)
-  pub low : 1 ≤ f .heading .holder
-  pub high : f .heading .holder ≤ f .heading .params .n
-  pub archive-fits : f .heading .archive < 256 ^ 8
-  pub count : length (f .jobs) ≡ f .heading .jobs
-  pub fit : AllFit (f .heading) (f .jobs)
-  pub rising : (p : ℕ) → suc p < length (f .jobs) → getD (numbersIn (f .jobs)) p 0 < getD (numbersIn (f .jobs)) (suc p) 0
-
--- files that belong together with a heading and job numbers, holders rising from above prev
-pub data Chain (h : Heading) (ns : List ℕ) : ℕ → List File → Type 0 where
-  done : {prev : ℕ} → Chain h ns prev []
-  next : {prev : ℕ} {f : File} {fs : List File} → FileFits f → prev < f .heading .holder → Same h (f .heading) → numbersIn (f .jobs) ≡ ns →
-      Chain h ns (f .heading .holder) fs → Chain h ns prev (f ∷ fs)
-
--- a bundle that can be written: one file or more, each belonging with the first
-abbrev pub BundleFits : List File → Type 0
-BundleFits [] = ⊥
-BundleFits (f ∷ fs) = Chain (f .heading) (numbersIn (f .jobs)) 0 (f ∷ fs)
-
--- ---- how many bytes
 
 pub heading-body-length : (h : Heading) → 2 + length (headingBody h) ≡ headLen h
 unfolding headingBody headLen

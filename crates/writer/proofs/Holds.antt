@@ -7,9 +7,8 @@ use lib.ListN.{length, getD, take, drop, length-append}
 use lib.Seq.{take-at, drop-at, getD-at}
 use Rattle.records.specs.Num.{part, leNum, leAt, leBytes}
 use Rattle.records.specs.Layout.{bodyAt, recordSize}
-use Rattle.records.specs.Record.{lenAt, kindAt}
+use Rattle.records.specs.Record.{lenAt, kindAt, Frame}
 use Rattle.records.proofs.Num.{length-leBytes, leNum-leBytes}
-use Rattle.records.proofs.Record.{Frame}
 use Rattle.writer.specs.Bytes.{recordBytes}
 
 pub record Holds (bs : List ℕ) (at : ℕ) (xs : List ℕ) : Type 0 where

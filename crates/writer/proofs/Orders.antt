@@ -7,11 +7,11 @@ use mathlib.Core.Bool.{true}
 use lib.ListN.{length, getD, drop}
 use lib.Seq.{drop-at}
 use lib.Dec.{lit<}
+use Rattle.records.specs.Num.{Bytes}
 use Rattle.records.specs.Layout.{bodyAt, orderKind, orderLen, orderSize}
 use Rattle.records.specs.Record.{framed}
 use Rattle.bundle.specs.Bundle.{filesFault, bundleFault}
 use Rattle.bundle.specs.Contents.{bundleFrom}
-use Rattle.records.proofs.Num.{Bytes}
 use Rattle.records.proofs.Record.{frame-framed}
 use Rattle.bundle.proofs.Files.{bundle-files}
 use Rattle.writer.specs.Bytes.{orderBytes, filesBytes, bundleBytes}

@@ -3,7 +3,7 @@ use mathlib.Core.Path.{_≡_, refl, ap, ap₂, _∙_}
 use Prim.Native.Nat.{ℕ, zero, suc, _+_, _*_, _≤_}
 use native.Mathlib.Omega.{arith}
 use mathlib.Core.List.{List, _++_}
-use mathlib.Core.Bool.{Bool}
+use mathlib.Core.Bool.{Bool, cond}
 use lib.ListN.{length, getD, take, length-append}
 use lib.Seq.{drop-append-add, getD-append-add}
 use lib.Dec.{leb, ltb}
@@ -14,7 +14,7 @@ use Rattle.records.specs.Num.{part, leNum, leAt}
 use Rattle.records.specs.Layout.{bodyAt, kindPlace, recordSize, headKind, headLen, headSize, jobKind, jobLen, fileSize}
 use Rattle.records.specs.Record.{lenAt, kindAt, framed, headingOf}
 use Rattle.bundle.specs.Bundle.{rangesOk, holderOk, belongs, headingFault, numOf, jobFaultAt, prevNum, jobFault, fileFaultAt, placeAt, prevHolder}
-use Rattle.bundle.specs.Bundle.{when, placeFault, filesFault}
+use Rattle.bundle.specs.Bundle.{faultOfFile, filesFault}
 use Rattle.records.specs.declared.Heading.{Heading}
 use Rattle.bundle.proofs.Files.{place-low}
 
@@ -145,20 +145,20 @@ module _ (pre bs : List ℕ) where
   holder-shift start (suc f) =
       ap (λ (m : ℕ). headingOf (pre ++ bs) m .holder) (place-shift start f) ∙ ap (λ (x : Heading). x .holder) (heading-shift (placeAt bs start f))
 
-  place-fault-shift : (start f : ℕ) → placeFault (pre ++ bs) (length pre + start) f ≡ placeFault bs start f
-  unfolding placeFault
+  place-fault-shift : (start f : ℕ) → faultOfFile (pre ++ bs) (length pre + start) f ≡ faultOfFile bs start f
+  unfolding faultOfFile
   place-fault-shift start f =
-      ap₂ when (before-shift (placeAt bs start f) (placeAt (pre ++ bs) (length pre + start) f) (place-shift start f))
+      ap₂ (λ (t : Bool) (x : ℕ). cond t x 0) (before-shift (placeAt bs start f) (placeAt (pre ++ bs) (length pre + start) f) (place-shift start f))
       (ap₂ (λ (x y : ℕ). fileFaultAt (pre ++ bs) (length pre + start) x y) (holder-shift start f) (place-shift start f)
       ∙ file-fault-shift start (prevHolder bs start f) (placeAt bs start f))
 
   -- files behind other bytes have the fault that they have alone
   pub files-shift : (start : ℕ) → filesFault (pre ++ bs) (length pre + start) ≡ filesFault bs start
-  unfolding filesFault placeFault
+  unfolding filesFault faultOfFile
   files-shift start =
       let n : length (pre ++ bs) ≡ length bs + length pre = long ∙ omega arith in
       ap₂ (λ (t : Bool) (x : ℕ). first (unless t 7) x) (before-shift start (length pre + start) refl)
-      (ap (firstOf (placeFault (pre ++ bs) (length pre + start))) n
-      ∙ firstOf-same (placeFault (pre ++ bs) (length pre + start)) (placeFault bs start) (length bs + length pre) (place-fault-shift start)
-      ∙ firstOf-longer (placeFault bs start) (length bs) (length pre)
+      (ap (firstOf (faultOfFile (pre ++ bs) (length pre + start))) n
+      ∙ firstOf-same (faultOfFile (pre ++ bs) (length pre + start)) (faultOfFile bs start) (length bs + length pre) (place-fault-shift start)
+      ∙ firstOf-longer (faultOfFile bs start) (length bs) (length pre)
       (λ i l. rw (le-ltb (placeAt bs start i) (length bs) (omega (arith, place-low bs start i)))))

@@ -14,24 +14,21 @@ use Rattle.words.specs.Word.{allInWidth}
 use Rattle.words.specs.declared.Params.{Params}
 use Rattle.words.proofs.Tests.{and-left, and-right, and-yes}
 use Rattle.words.proofs.Width.{width-at}
+use Rattle.records.specs.Num.{Bytes}
 use Rattle.records.specs.Layout.{wordSize}
 use Rattle.records.specs.Record.{headingOf}
 use Rattle.bundle.specs.Bundle.{fileFault}
 use Rattle.bundle.specs.Contents.{Job, File, fileFrom}
 use Rattle.records.specs.declared.Heading.{Heading}
-use Rattle.records.proofs.Num.{Bytes}
-use Rattle.bundle.proofs.Headings.{ranges-ok, ok-ranges, holder-ok, ok-holder}
+use Rattle.bundle.proofs.Headings.{ok-ranges, holder-ok, ok-holder}
 use Rattle.writer.specs.Bytes.{fileBytes}
 use Rattle.writer.specs.Write.{headingFor, jobOf, jobsOf, fileFor, numbersIn, wordsIn, rising, writeFault}
-use Rattle.writer.proofs.Fits.{AllFit, no-job, a-job, FileFits, file-length}
+use Rattle.writer.specs.Fits.{Words64, AllFit, no-job, a-job, FileFits, Rewritten}
+use Rattle.writer.proofs.Fits.{file-length}
 use Rattle.writer.proofs.Encode.{file-written}
 use Rattle.writer.proofs.Decode.{file-read}
 use Rattle.writer.proofs.Whole.{file-accepted}
 use Rattle.writer.proofs.Calls.{jobs-count, Writable, writable, writes}
-
--- every element is a number of 64 bits, as a lent slice's are
-abbrev pub Words64 : List ℕ → Type 0
-Words64 l = (i : ℕ) → getD l i 0 < 2 ^ 64
 
 -- ---- numbers that rise, as a test and by their places
 
@@ -93,7 +90,7 @@ module _ (p : Params) (holder archive : ℕ) (ns ws : List ℕ) (size : ℕ) (u 
   file-for-fits =
       let o = ok-holder 0 h (fine .holder) in
       record {
-        ranges = ok-ranges h (fine .ranges);
+        ranges = fine .ranges;
         low = o .0;
         high = o .1;
         archive-fits = u;
@@ -128,12 +125,6 @@ jobs-again h (j ∷ js) (a-job f a) =
     let r : drop d (j .words ++ wordsIn js) ≡ wordsIn js = drop-at (j .words) (wordsIn js) d (f .words-count) in
     ap₂ _∷_ (ap (jobOf (j .num)) t) (ap (jobsOf d (numbersIn js)) r ∙ jobs-again h js a)
 
--- the call that writes a file of some contents
-pub record Rewritten (f : File) (bs : List ℕ) : Type 0 where
-  pub fault : writeFault (headingFor (f .heading .params) (f .heading .holder) (f .heading .archive) (length (numbersIn (f .jobs))))
-      (numbersIn (f .jobs)) (wordsIn (f .jobs)) (length bs) ≡ 0
-  pub bytes : fileBytes (fileFor (f .heading .params) (f .heading .holder) (f .heading .archive) (numbersIn (f .jobs)) (wordsIn (f .jobs))) ≡ bs
-
 module _ (f : File) (w : FileFits f) where
   heading-again : headingFor (f .heading .params) (f .heading .holder) (f .heading .archive) (length (numbersIn (f .jobs))) ≡ f .heading
   unfolding headingFor
@@ -154,7 +145,7 @@ module _ (f : File) (w : FileFits f) where
         fault = rw heading-again
             (writes (f .heading) (numbersIn (f .jobs)) (wordsIn (f .jobs)) (length (fileBytes f))
             (record {
-              ranges = ranges-ok (f .heading) (w .ranges);
+              ranges = w .ranges;
               count = words-in-count (f .heading) (f .jobs) (w .fit) ∙ ap (λ (n : ℕ). n * f .heading .params .d) (w .count);
               room = file-length f w;
               holder = holder-ok 0 (f .heading) (w .low) (w .high);

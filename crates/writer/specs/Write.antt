@@ -4,8 +4,8 @@ use mathlib.Core.List.{List, [], _∷_, _++_}
 use mathlib.Core.Bool.{Bool, true, _&&_}
 use lib.ListN.{length, take, drop}
 use lib.Dec.{ltb, eqb}
-use Rattle.words.specs.Refusal.{first, unless}
-use Rattle.words.specs.Word.{allInWidth}
+use Rattle.words.specs.Refusal.{first, unless, PARAMETERS, LENGTH, HOLDER, MALFORMED}
+use Rattle.words.specs.Faults.{lengthFault, widthFault}
 use Rattle.words.specs.declared.Params.{Params}
 use Rattle.records.specs.Layout.{fileSize, orderSize}
 use Rattle.bundle.specs.Bundle.{rangesOk, holderOk, bundleFault}
@@ -48,9 +48,9 @@ sizesOk h count size = eqb count (h .jobs * h .params .d) && eqb size (fileSize 
 
 unfoldable pub writeFault : Heading → List ℕ → List ℕ → ℕ → ℕ
 writeFault h ns ws size =
-    first (unless (rangesOk h) 1)
-    (first (unless (sizesOk h (length ws) size) 2)
-    (first (unless (holderOk 0 h) 4) (first (unless (rising ns) 7) (unless (allInWidth (h .params .k) ws) 3))))
+    first (unless (rangesOk h) PARAMETERS)
+    (first (unless (sizesOk h (length ws) size) LENGTH)
+    (first (unless (holderOk 0 h) HOLDER) (first (unless (rising ns) MALFORMED) (widthFault (h .params .k) ws))))
 
 -- a call with lent numbers and words, J being how many numbers are lent
 abbrev pub fileWriteFault : Params → ℕ → ℕ → List ℕ → List ℕ → List ℕ → ℕ
@@ -58,9 +58,9 @@ fileWriteFault p holder archive ns ws out = writeFault (headingFor p holder arch
 
 -- an order has its one length
 unfoldable pub orderFault : ℕ → ℕ
-orderFault size = unless (eqb size orderSize) 2
+orderFault size = lengthFault orderSize size
 
 -- a bundle is made of an order and files that stand one after another; first come the faults of the bundle that would be written
 unfoldable pub bundleWriteFault : ℕ → List ℕ → ℕ → ℕ
 bundleWriteFault e files size =
-    first (bundleFault (orderBytes e ++ files)) (unless (eqb size (orderSize + length files)) 2)
+    first (bundleFault (orderBytes e ++ files)) (lengthFault (orderSize + length files) size)

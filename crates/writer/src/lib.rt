@@ -7,10 +7,9 @@ ghost use lib.ListN.{length, take, drop};
 ghost use Rattle.words.specs.Refusal.{kept};
 ghost use Rattle.records.specs.Num.{leBytes};
 ghost use Rattle.records.specs.Layout.{headSize, jobSize, orderSize};
-ghost use Rattle.bundle.specs.Bundle.{rangesOk, holderOk, filesFault};
+ghost use Rattle.bundle.specs.Bundle.{rangesOk, holderOk};
 ghost use Rattle.writer.specs.Bytes.{headingBytes, wordsBytes, jobBytes, jobsBytes, fileBytes, orderBytes};
 ghost use Rattle.writer.specs.Write.{jobOf, jobsOf, fileFor, rising, sizesOk, writeFault, fileWriteFault, orderFault, bundleWriteFault};
-use bundle::Checked;
 use records::Heading;
 use words::Params;
 
@@ -165,20 +164,16 @@ fn write_fault(h: Heading, numbers: &[u64], words: &[u64], size: usize) -> u8
     if !bundle::ranges_ok(h) {
         return words::PARAMETERS;
     }
-    if !sizes_ok(h, words.len(), size) {
-        return words::LENGTH;
-    }
-    if !bundle::holder_ok(0, h) {
-        return words::HOLDER;
-    }
-    if !strictly_rising(numbers) {
-        return words::MALFORMED;
-    }
     let k = h.params.k;
-    if !words::all_in_width(k, words) {
-        return words::WIDE_WORD;
+    let lengths = words::unless(sizes_ok(h, words.len(), size), words::LENGTH);
+    // Words are read only where there are as many as there should be.
+    if lengths != 0 {
+        return lengths;
     }
-    0
+    let holder = words::unless(bundle::holder_ok(0, h), words::HOLDER);
+    let order = words::unless(strictly_rising(numbers), words::MALFORMED);
+    let jobs = words::first(order, words::width_fault(k, words));
+    words::first(holder, jobs)
 }
 
 // Writes a file: its heading, and a job for each number, with d words each.
@@ -222,17 +217,6 @@ fn put_bytes(out: &mut [u8], at: usize, bytes: &[u8])
     }
 }
 
-// The first fault of files that stand one after another, or 0.
-fn files_fault(files: &[u8]) -> u8
-    ensures { λ r. ⌜ r ≡ filesFault (now (files .entry)) 0 ⌝ }
-{
-    let checked = bundle::check_files(files, 0);
-    match checked {
-        Checked::Files(_) => 0,
-        Checked::Refused(c) => c,
-    }
-}
-
 // Writes a bundle: an order, and after it files as they stand in one lent slice. Files come from their holders already written, so nothing
 // is written of them again; what would not be accepted is declined, with the number that a reader of the bundle would give.
 pub fn write_bundle(e: u8, files: &[u8], out: &mut [u8]) -> u8
@@ -240,7 +224,7 @@ pub fn write_bundle(e: u8, files: &[u8], out: &mut [u8]) -> u8
         (now (out .exit) ≡ kept (bundleWriteFault e (now (files .entry)) (length (now (out .entry)))) (now (out .entry))
         (orderBytes e ++ now (files .entry))) ⌝ }
 {
-    let fault = files_fault(files);
+    let fault = bundle::files_fault(files, 0);
     if fault != 0 {
         return fault;
     }

@@ -5,7 +5,8 @@ use borrow.Author.Needs.{needs}
 use borrow.Author.Tests.{eq-eqb, eqb-true, not-true, not-false}
 use Rattle.words.proofs.Tests.{not-held, same-test, true-false}
 use Rattle.bundle.specs.Bundle.{belongs}
-use Rattle.bundle.proofs.Headings.{same-params, params-same, Same, same-belongs, belongs-same}
+use Rattle.bundle.specs.Acceptance.{Same}
+use Rattle.bundle.proofs.Headings.{same-params, params-same, same-belongs, belongs-same}
 use Rattle.bundle.proofs.belong.Statement.{statement}
 use Rattle.bundle.proofs.belong.Tie as tie
 

@@ -1,17 +1,16 @@
 -- `check_file`: the file's first fault, or else its end. Assumes nothing.
-use mathlib.Core.Path.{_≡_, sym, ap, _∙_}
+use mathlib.Core.Path.{sym, ap, _∙_}
 use Prim.Native.Nat.{ℕ}
 use mathlib.Core.List.{List}
 use borrow.Author.Needs.{needs}
-use borrow.Author.Tests.{eq-eqb, ne-eqb}
 use lib.ListN.{length}
 use lib.Dec.{eqb}
 use denote.Ref.{now}
 use Rattle.words.specs.Refusal.{unless}
-use Rattle.words.proofs.Refusal.{unless-yes, unless-no}
 use Rattle.records.specs.Layout.{fileSize}
-use Rattle.bundle.specs.Bundle.{fileFault}
-use Rattle.bundle.proofs.Files.{FileOk, file-ok, file-fault, file-end}
+use Rattle.bundle.specs.Acceptance.{FileOk}
+use Rattle.bundle.proofs.Headings.{ok-ranges}
+use Rattle.bundle.proofs.Files.{file-ok, file-fault, file-end}
 use Rattle.bundle.proofs.check_file.Statement.{statement}
 use Rattle.bundle.proofs.check_file.Tie as tie
 
@@ -34,21 +33,18 @@ heading-at-requires c κs = file c .heading .frame .within
 
 file-size-requires : tie.Need-file-size-requires
 file-size-requires c κs =
-    let r = file (c .before) .heading .ranges in
+    let r = ok-ranges _ (file (c .before) .heading .ranges) in
     rw (c .heading-at .ensures) (r .book .d-high, r .jobs-high)
 
-size-is : (c : tie.After-file-size) → fileFault (bs (c .before .before .before .before .before)) ≡ unless
-    (eqb (length (bs (c .before .before .before .before .before))) (c .file-size .result)) 7
-size-is c =
-    file-end (bs (c .before .before .before .before .before)) (sym (c .before .before .before .file-fault .ensures) ∙ c .before .before .if1 .left)
-    ∙ ap (λ (n : ℕ). unless (eqb (length (bs (c .before .before .before .before .before))) n) 7)
-    (ap fileSize (sym (c .before .heading-at .ensures)) ∙ sym (c .file-size .ensures))
+unless-requires : tie.Need-unless-requires
+unless-requires c κs = search needs
 
 returns-2 : tie.Need-returns-2
-returns-2 c = sym (size-is (c .before) ∙ unless-yes _ 7 (eq-eqb _ _ (c .if2 .taken)))
-
-returns-3 : tie.Need-returns-3
-returns-3 c = sym (size-is (c .before) ∙ unless-no _ 7 (ne-eqb _ _ (c .if2 .left)))
+returns-2 c =
+    let s = bs (c .before .before .before .before .before .before) in
+    c .unless .ensures
+    ∙ ap (λ (n : ℕ). unless (eqb (length s) n) 7) (c .before .file-size .ensures ∙ ap fileSize (c .before .before .heading-at .ensures))
+    ∙ sym (file-end s (sym (c .before .before .before .before .file-fault .ensures) ∙ c .before .before .before .if1 .left))
 
 pub check-file-spec : {M : Type 1} → statement M
-check-file-spec = tie.close (tie.spec file-fault-requires returns heading-at-requires file-size-requires returns-2 returns-3)
+check-file-spec = tie.close (tie.spec file-fault-requires returns heading-at-requires file-size-requires unless-requires returns-2)

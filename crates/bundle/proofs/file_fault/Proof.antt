@@ -13,7 +13,8 @@ use Rattle.records.specs.Record.{headingOf}
 use Rattle.bundle.specs.Bundle.{headingFault, jobFault, fileFaultAt}
 use Rattle.records.specs.declared.Heading.{Heading}
 use Rattle.records.proofs.Lengths.{known-job}
-use Rattle.bundle.proofs.Headings.{HeadingOk, heading-ok}
+use Rattle.bundle.specs.Acceptance.{HeadingOk}
+use Rattle.bundle.proofs.Headings.{ok-ranges, heading-ok}
 use Rattle.bundle.proofs.file_fault.Statement.{statement}
 use Rattle.bundle.proofs.file_fault.Tie as tie
 
@@ -46,7 +47,7 @@ head-size-requires : tie.Need-head-size-requires
 head-size-requires c κs = search needs
 
 job-length-requires : tie.Need-job-length-requires
-job-length-requires c κs = rw (c .before .heading-at .ensures) (heading (c .before .before) .ranges .book .d-high)
+job-length-requires c κs = rw (c .before .heading-at .ensures) (ok-ranges _ (heading (c .before .before) .ranges) .book .d-high)
 
 -- the heading's size, and that it is within the bytes
 head-is : (c : tie.After-job-length) → c .before .head-size .result ≡ headSize (h (c .before .before .before .before .before .before))
@@ -72,7 +73,7 @@ add-jobs-fault-2 c = omega (arith, fits c, c .before .before .before .before .be
 
 jobs-fault-requires : tie.Need-jobs-fault-requires
 jobs-fault-requires c κs =
-    let b = heading (c .before .before .before) .ranges .book in (
+    let b = ok-ranges _ (heading (c .before .before .before) .ranges) .book in (
       rw (job-is c) (known-job (h (c .before .before .before .before .before .before)) (b .d-low) (b .d-high)),
       omega
           (arith, c .before .before .before .before .before .before .pre),

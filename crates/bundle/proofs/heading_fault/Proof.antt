@@ -8,15 +8,14 @@ use borrow.Author.Needs.{needs}
 use borrow.Author.Tests.{not-true, not-false}
 use native.Mathlib.Omega.{arith}
 use denote.Ref.{now}
-use Rattle.words.specs.Refusal.{unless}
-use Rattle.words.proofs.Refusal.{unless-yes, unless-no}
+use Rattle.words.specs.Refusal.{first, unless}
 use Rattle.records.specs.Layout.{headKind, headLen, headSize}
 use Rattle.records.specs.Record.{framed, headingOf}
-use Rattle.bundle.specs.Bundle.{rangesOk, holderOk, belongs, headingFault}
+use Rattle.bundle.specs.Bundle.{rangesOk, holderOk, belongs}
 use Rattle.records.specs.declared.Heading.{Heading}
 use Rattle.records.proofs.Lengths.{known-heading}
 use Rattle.records.proofs.Record.{framed-frame}
-use Rattle.bundle.proofs.Headings.{heading-7, heading-1, heading-4, heading-8}
+use Rattle.bundle.proofs.Headings.{heading-7, heading-rest}
 use Rattle.bundle.proofs.heading_fault.Statement.{statement}
 use Rattle.bundle.proofs.heading_fault.Tie as tie
 
@@ -55,62 +54,48 @@ heading-at-requires c κs = fits c
 ranges-ok-requires : tie.Need-ranges-ok-requires
 ranges-ok-requires c κs = search needs
 
-ranges-are : (c : tie.After-ranges-ok) → rangesOk (h (c .before .before .before .before .before)) ≡ c .ranges-ok .result
-ranges-are c = ap rangesOk (sym (c .before .heading-at .ensures)) ∙ sym (c .ranges-ok .ensures)
-
-returns-2 : tie.Need-returns-2
-returns-2 c =
-    let a = c .before .before .before .before .before .before .args in
-    sym (heading-1 (bs (c .before .before .before .before .before .before)) (a .base) (a .prev) (a .at) (framed-yes (c .before .before .before))
-    (ranges-are (c .before) ∙ not-true _ (c .if2 .taken)))
+unless-requires : tie.Need-unless-requires
+unless-requires c κs = search needs
 
 holder-ok-requires : tie.Need-holder-ok-requires
 holder-ok-requires c κs = search needs
 
-holder-is : (c : tie.After-holder-ok) → holderOk (c .before .before .before .before .before .before .before .args .prev)
-    (h (c .before .before .before .before .before .before .before)) ≡ c .holder-ok .result
-holder-is c = ap (holderOk (c .before .before .before .before .before .before .before .args .prev))
-    (sym (c .before .before .before .heading-at .ensures)) ∙ sym (c .holder-ok .ensures)
-
-returns-3 : tie.Need-returns-3
-returns-3 c =
-    let a = c .before .before .before .before .before .before .before .before .args in
-    sym (heading-4 (bs (c .before .before .before .before .before .before .before .before)) (a .base) (a .prev) (a .at)
-    (framed-yes (c .before .before .before .before .before)) (ranges-are (c .before .before .before) ∙ not-false _ (c .before .before .if2 .left))
-    (holder-is (c .before) ∙ not-true _ (c .if3 .taken)))
+unless-requires-2 : tie.Need-unless-requires-2
+unless-requires-2 c κs = search needs
 
 heading-at-requires-2 : tie.Need-heading-at-requires-2
 unfolding headLen
-heading-at-requires-2 c κs = omega (
-  arith,
-  fits (c .before .before .before .before .before),
-  c .before .before .before .before .before .before .before .before .pre,
-)
+heading-at-requires-2 c κs =
+    omega (arith, fits (c .before .before .before .before .before), c .before .before .before .before .before .before .before .before .pre)
 
 belong-requires : tie.Need-belong-requires
 belong-requires c κs = search needs
 
--- past the third test the fault is by the first file's heading
-last : (c : tie.After-belong) → let a = c .before .before .before .before .before .before .before .before .before .before .args in headingFault
-    (bs (c .before .before .before .before .before .before .before .before .before .before)) (a .base) (a .prev) (a .at) ≡ unless
-    (c .belong .result) 8
-last c =
-    let a = c .before .before .before .before .before .before .before .before .before .before .args in
-    heading-8 (bs (c .before .before .before .before .before .before .before .before .before .before)) (a .base) (a .prev) (a .at)
-    (framed-yes (c .before .before .before .before .before .before .before))
-    (ranges-are (c .before .before .before .before .before) ∙ not-false _ (c .before .before .before .before .if2 .left))
-    (holder-is (c .before .before .before) ∙ not-false _ (c .before .before .if3 .left))
-    ∙ ap (λ b. unless b 8) (ap₂ belongs (sym (c .before .heading-at2 .ensures))
-    (sym (c .before .before .before .before .before .before .heading-at .ensures)) ∙ sym (c .belong .ensures))
+unless-requires-3 : tie.Need-unless-requires-3
+unless-requires-3 c κs = search needs
 
-returns-4 : tie.Need-returns-4
-returns-4 c = sym (last (c .before) ∙ unless-no _ 8 (not-true _ (c .if4 .taken)))
+first-requires : tie.Need-first-requires
+first-requires c κs = search needs
 
-returns-5 : tie.Need-returns-5
-returns-5 c = sym (last (c .before) ∙ unless-yes _ 8 (not-false _ (c .if4 .left)))
+first-requires-2 : tie.Need-first-requires-2
+first-requires-2 c κs = search needs
+
+returns-2 : tie.Need-returns-2
+returns-2 c =
+    let b = c .before .before .before .before in
+    let x = b .before .before .before .before in
+    let s = x .before .before .before .before .before in
+    let h-is = x .before .heading-at .ensures in
+    c .first2 .ensures
+    ∙ ap₂ first (b .before .before .before .unless .ensures ∙ ap (λ t. unless t 1) (x .ranges-ok .ensures ∙ ap rangesOk h-is))
+    (c .before .first .ensures
+    ∙ ap₂ first (b .before .unless2 .ensures ∙ ap (λ t. unless t 4) (b .before .before .holder-ok .ensures ∙ ap (holderOk (s .args .prev)) h-is))
+    (c .before .before .unless3 .ensures ∙ ap (λ t. unless t 8) (c .before .before .before .belong .ensures ∙ ap₂ belongs (b .heading-at2 .ensures)
+    h-is)))
+    ∙ sym (heading-rest (bs s) (s .args .base) (s .args .prev) (s .args .at) (framed-yes (x .before .before)))
 
 pub heading-fault-spec : {M : Type 1} → statement M
 heading-fault-spec =
     tie.close
-    (tie.spec is-record-requires returns heading-at-requires ranges-ok-requires returns-2 holder-ok-requires returns-3 heading-at-requires-2
-    belong-requires returns-4 returns-5)
+    (tie.spec is-record-requires returns heading-at-requires ranges-ok-requires unless-requires holder-ok-requires unless-requires-2
+    heading-at-requires-2 belong-requires unless-requires-3 first-requires first-requires-2 returns-2)

@@ -6,14 +6,13 @@ use mathlib.Core.List.{List}
 use lib.ListN.{length}
 use lib.Dec.{eqb, ltb}
 use borrow.Author.Needs.{needs}
-use borrow.Author.Tests.{not-true, not-false, eq-eqb, ne-eqb}
+use borrow.Author.Tests.{not-true, not-false}
 use native.Mathlib.Omega.{arith}
 use denote.Ref.{now}
 use Rattle.words.specs.Refusal.{unless}
-use Rattle.words.proofs.Refusal.{unless-yes, unless-no}
 use Rattle.records.specs.Layout.{recordSize, jobKind, bodyAt}
 use Rattle.records.specs.Record.{framed}
-use Rattle.bundle.specs.Bundle.{numOf, jobFaultAt}
+use Rattle.bundle.specs.Bundle.{numOf}
 use Rattle.records.proofs.Lengths.{known-job-min}
 use Rattle.records.proofs.Record.{framed-frame}
 use Rattle.bundle.proofs.Headings.{job-7, job-low, job-8}
@@ -78,23 +77,21 @@ add-word-at-2 c = search needs
 word-at-requires-2 : tie.Need-word-at-requires-2
 word-at-requires-2 c κs = omega (arith, fits (c .before .before .before), c .before .before .before .before .before .before .pre)
 
-last : (c : tie.After-word-at2) → let a = c .before .before .before .before .before .before .before .args in
-    jobFaultAt (bs (c .before .before .before .before .before .before .before)) (a .len) (a .base) (a .prev) (a .p) (a .at) ≡ unless
-    (eqb (c .word-at2 .result) (c .before .before .before .word-at .result)) 8
-unfolding numOf
-last c =
-    let a = c .before .before .before .before .before .before .before .args in
-    job-8 (bs (c .before .before .before .before .before .before .before)) (a .len) (a .base) (a .prev) (a .p) (a .at)
-    (framed-yes (c .before .before .before .before)) (rises-is (c .before .before) ∙ not-false _ (c .before .if2 .left))
-    ∙ ap₂ (λ (x y : ℕ). unless (eqb x y) 8) (sym (c .word-at2 .ensures)) (sym (num-is (c .before .before .before)))
+unless-requires : tie.Need-unless-requires
+unless-requires c κs = search needs
 
 returns-3 : tie.Need-returns-3
-returns-3 c = sym (last (c .before) ∙ unless-no _ 8 (ne-eqb _ _ (c .if3 .taken)))
-
-returns-4 : tie.Need-returns-4
-returns-4 c = sym (last (c .before) ∙ unless-yes _ 8 (eq-eqb _ _ (c .if3 .left)))
+unfolding numOf
+returns-3 c =
+    let s = c .before .before .before .before .before .before .before .before in
+    let a = s .args in
+    c .unless .ensures
+    ∙ ap₂ (λ (x y : ℕ). unless (eqb x y) 8) (c .before .word-at2 .ensures) (num-is (c .before .before .before .before))
+    ∙ sym (job-8 (bs s) (a .len) (a .base) (a .prev) (a .p) (a .at) (framed-yes (c .before .before .before .before .before))
+    (rises-is (c .before .before .before) ∙ not-false _ (c .before .before .if2 .left)))
 
 pub job-fault-spec : {M : Type 1} → statement M
 job-fault-spec =
     tie.close
-    (tie.spec is-record-requires returns add-word-at word-at-requires rises-requires returns-2 add-word-at-2 word-at-requires-2 returns-3 returns-4)
+    (tie.spec is-record-requires returns add-word-at word-at-requires rises-requires returns-2 add-word-at-2 word-at-requires-2 unless-requires
+    returns-3)

@@ -1,198 +1,116 @@
--- `fetch_body`: each return is a case of the fetch. Assumes nothing.
-use mathlib.Core.Path.{_≡_, sym, ap, _∙_}
+-- `fetch_body`: an empty part where there is a fault, and else the record's body. Assumes nothing.
+use mathlib.Core.Path.{_≡_, sym, ap, ap₂, _∙_}
 use Prim.Native.Nat.{ℕ, _+_, _-_, _≤_, _<_}
-use mathlib.Core.List.{List}
-use borrow.Author.Needs.{needs}
-use borrow.Author.Tests.{lt-ltb, le-ltb}
 use native.Mathlib.Nat.{add-sub-cancel-left}
 use native.Mathlib.Omega.{arith}
+use mathlib.Core.List.{List}
 use lib.ListN.{length, take, drop}
-use lib.Dec.{ltb}
+use borrow.Author.Needs.{needs}
 use denote.Ref.{now}
-use Rattle.words.specs.Refusal.{unless}
-use Rattle.words.proofs.Refusal.{unless-yes, unless-no}
+use Rattle.words.specs.Refusal.{first}
 use Rattle.records.specs.Num.{part}
-use Rattle.records.specs.Layout.{bodyAt, recordSize, bodySize, jobLen}
-use Rattle.bundle.specs.Bundle.{bundleHeading, bundleFault, filesOf, jobAt}
-use Rattle.fetch.specs.Fetch.{fileOf, bodyFault}
+use Rattle.records.specs.Layout.{bodyAt, bodySize, jobLen}
 use Rattle.records.specs.declared.Heading.{Heading}
-use Rattle.records.proofs.Lengths.{job-length-low}
-use Rattle.bundle.proofs.Files.{files-are, refused-is}
-use Rattle.bundle.proofs.Accepted.{Accepted, accepted, bundle-ranges, bundle-within, job-within, job-place, file-few}
-use Rattle.fetch.proofs.Fetch.{found-at, found-no, body-refused, body-4, body-9, body-empty, body-part}
+use Rattle.bundle.specs.Bundle.{bundleFault, bundleHeading, filesOf, jobAt}
+use Rattle.bundle.proofs.Bundles.{accept-none, accept-files, accept-heading}
+use Rattle.fetch.specs.Fetch.{fileOf, bodyFault}
+use Rattle.fetch.proofs.Fetch.{body-refused, body-told, body-empty, body-part, body-accepted}
+use Rattle.fetch.proofs.Places.{file-asks, job-asks, job-spot, job-fits}
 use Rattle.fetch.proofs.fetch_body.Statement.{statement}
 use Rattle.fetch.proofs.fetch_body.Tie as tie
 
 abbrev bs : tie.Start → List ℕ
 bs s = now (s .args .bytes)
 
-check-bundle-requires : tie.Need-check-bundle-requires
-check-bundle-requires c κs = search needs
-
-enum-known-checked : tie.Need-enum-known-checked
-enum-known-checked c = search needs
-
-enum-told : tie.Need-enum-told
-enum-told c = search needs
-
-slice-aggregate-result : tie.Need-slice-aggregate-result
-slice-aggregate-result c = search needs
-
 returns : tie.Need-returns
 returns c =
-    let a = c .before .before .before .before .before .args in
-    let s = bs (c .before .before .before .before .before) in
-    let w = c .before .enum-told .given in
-    let r = refused-is (bundleFault s) (filesOf s) (w .0 .0) (sym (c .before .before .before .check-bundle .ensures) ∙ w .1) in
-    sym (body-empty s (a .holder) (a .p) (w .0 .0) (r .1) (body-refused s (a .holder) (a .p) (λ z. r .1 (sym (r .0) ∙ z)) ∙ r .0))
-
--- the bundle is accepted
-files-is : (c : tie.After-known-told) → (bundleFault (bs (c .before .before .before .before .before)) ≡ 0) ×
-    (c .before .checked .given .0 .0 ≡ filesOf (bs (c .before .before .before .before .before)))
-files-is c = files-are (bundleFault (bs (c .before .before .before .before .before))) (filesOf (bs (c .before .before .before .before .before)))
-    (c .before .checked .given .0 .0) (sym (c .before .before .before .check-bundle .ensures) ∙ c .before .checked .given .1)
+    let s = c .before .before .before .before .before in
+    let r = c .before .before .before .accept in
+    let n = c .before .if1 .taken in
+    sym (body-empty (bs s) (s .args .holder) (s .args .p) (r .result .fault) n
+    (sym (body-refused (bs s) (s .args .holder) (s .args .p) (r .result) (r .ensures) n)))
 
 find-file-requires : tie.Need-find-file-requires
-find-file-requires c κs = files-is c
+find-file-requires c κs =
+    let s = bs (c .before .before .before .before .before) in
+    let r = c .before .before .before .accept in
+    (accept-none s (r .result) (r .ensures) (c .before .if1 .left), accept-files s (r .result) (r .ensures) (c .before .if1 .left))
 
-enum-known-found : tie.Need-enum-known-found
-enum-known-found c = search needs
-
-enum-told-2 : tie.Need-enum-told-2
-enum-told-2 c = search needs
-
-slice-aggregate-result-2 : tie.Need-slice-aggregate-result-2
-slice-aggregate-result-2 c = search needs
+-- the two tests are the fetch's
+fault-is : (c : tie.After-first) → let s = c .before .before .before .before .before .before .before .before .before in
+    c .first .result ≡ bodyFault (bs s) (s .args .holder) (s .args .p)
+fault-is c =
+    let b = c .before .before .before .before in
+    let s = b .before .before .before .before .before in
+    let r = b .before .before .before .accept in
+    c .first .ensures
+    ∙ ap₂ first (c .before .before .holder-fault .ensures) (c .before .place-fault .ensures)
+    ∙ body-told (bs s) (s .args .holder) (s .args .p) (r .result) (r .ensures) (b .before .if1 .left) _ (c .before .before .before .find-file .ensures)
 
 returns-2 : tie.Need-returns-2
 returns-2 c =
-    let a = c .before .before .before .before .before .before .before .before .before .args in
-    let s = bs (c .before .before .before .before .before .before .before .before .before) in
-    sym (body-empty s (a .holder) (a .p) 4 (λ z. omega arith)
-    (body-4 s (a .holder) (a .p) (files-is (c .before .before .before .before) .0)
-    (found-no s (a .holder) (sym (c .before .before .before .find-file .ensures) ∙ c .before .enum-told2 .given .1))))
+    let s = c .before .before .before .before .before .before .before .before .before .before .before in
+    sym (body-empty (bs s) (s .args .holder) (s .args .p) (c .before .before .first .result) (c .before .if2 .taken) (sym (fault-is (c .before .before))))
 
-heading-at-requires : tie.Need-heading-at-requires
-heading-at-requires c κs = bundle-within (bs (c .before .before .before .before .before .before .before .before .before))
-    (accepted (bs (c .before .before .before .before .before .before .before .before .before)) (files-is (c .before .before .before .before) .0))
+-- past the tests the job is there
+abbrev S : tie.Else2 → tie.Start
+S c = c .before .before .before .before .before .before .before .before .before .before
 
--- the file is found
-found-is : (c : tie.After-heading-at) → let s = bs (c .before .before .before .before .before .before .before .before .before .before) in let f =
-    c .before .before .found .given .0 .0 in (f < filesOf s) ×
-    (f ≡ fileOf s (c .before .before .before .before .before .before .before .before .before .before .args .holder))
-found-is c =
-    let g = c .before .before .found .given in
-    found-at (bs (c .before .before .before .before .before .before .before .before .before .before))
-    (c .before .before .before .before .before .before .before .before .before .before .args .holder) (g .0 .0)
-    (sym (c .before .before .before .before .find-file .ensures) ∙ g .1)
+abbrev H : tie.Else2 → Heading
+H c = c .before .before .before .before .before .before .before .before .accept .result .heading
 
-place : (c : tie.After-heading-at) → let a = c .before .before .before .before .before .before .before .before .before .before .args in
-    bodyFault (bs (c .before .before .before .before .before .before .before .before .before .before)) (a .holder) (a .p) ≡ unless
-    (ltb (a .p) (c .heading-at .result .jobs)) 9
-place c =
-    let a = c .before .before .before .before .before .before .before .before .before .before .args in
-    body-9 (bs (c .before .before .before .before .before .before .before .before .before .before)) (a .holder) (a .p)
-    (files-is (c .before .before .before .before .before) .0) (rw (found-is c .1) at (found-is c .0))
-    ∙ ap (λ (h : Heading). unless (ltb (a .p) (h .jobs)) 9) (sym (c .heading-at .ensures))
+none : (c : tie.Else2) → bodyFault (bs (S c)) (S c .args .holder) (S c .args .p) ≡ 0
+none c = sym (fault-is (c .before)) ∙ c .if2 .left
 
-slice-aggregate-result-3 : tie.Need-slice-aggregate-result-3
-slice-aggregate-result-3 c = search needs
+heading-is : (c : tie.Else2) → H c ≡ bundleHeading (bs (S c))
+heading-is c =
+    let r = c .before .before .before .before .before .before .before .before .accept in
+    accept-heading (bs (S c)) (r .result) (r .ensures) (c .before .before .before .before .before .before .if1 .left)
 
-returns-3 : tie.Need-returns-3
-returns-3 c =
-    let a = c .before .before .before .before .before .before .before .before .before .before .before .before .before .args in
-    sym (body-empty (bs (c .before .before .before .before .before .before .before .before .before .before .before .before .before)) (a .holder)
-    (a .p) 9 (λ z. omega arith) (place (c .before .before .before) ∙ unless-no _ 9 (le-ltb _ _ (c .before .if1 .taken))))
+found : (c : tie.Else2) → c .before .before .before .before .find-file .result < filesOf (bs (S c))
+found c =
+    let s = S c in
+    omega (arith, c .before .before .before .before .find-file .ensures, body-accepted (bs s) (s .args .holder) (s .args .p) (none c) .1)
 
-whole : (c : tie.Else1) → Accepted (bs (c .before .before .before .before .before .before .before .before .before .before .before .before))
-whole c = accepted (bs (c .before .before .before .before .before .before .before .before .before .before .before .before))
-    (files-is (c .before .before .before .before .before .before .before) .0)
+here : (c : tie.Else2) → S c .args .p < H c .jobs
+here c =
+    let s = S c in
+    omega (arith, body-accepted (bs s) (s .args .holder) (s .args .p) (none c) .2, ap (λ (h : Heading). h .jobs) (heading-is c))
 
-here : (c : tie.Else1) → c .before .before .before .before .before .before .before .before .before .before .before .before .args .p < bundleHeading
-    (bs (c .before .before .before .before .before .before .before .before .before .before .before .before)) .jobs
-here c = omega (arith, c .if1 .left, ap (λ (h : Heading). h .jobs) (c .before .before .heading-at .ensures))
+accepted : (c : tie.Else2) → bundleFault (bs (S c)) ≡ 0
+accepted c = body-accepted (bs (S c)) (S c .args .holder) (S c .args .p) (none c) .0
 
 job-at-requires : tie.Need-job-at-requires
-job-at-requires c κs =
-    let s = bs (c .before .before .before .before .before .before .before .before .before .before .before .before) in
-    let r = bundle-ranges s (whole c) in
-    rw (c .before .before .heading-at .ensures) (
-      r .book .d-high,
-      r .jobs-high,
-      file-few s (whole c) (c .before .before .before .before .found .given .0 .0) (found-is (c .before .before) .0),
-      omega (arith, here c, r .jobs-high),
-    )
+job-at-requires c κs = job-asks (bs (S c)) (accepted c) (H c) (heading-is c) _ (found c) (S c .args .p) (omega (arith, here c))
 
-job-is : (c : tie.After-job-at) → c .job-at .result ≡ jobAt (bs
-    (c .before .before .before .before .before .before .before .before .before .before .before .before .before))
-    (fileOf (bs (c .before .before .before .before .before .before .before .before .before .before .before .before .before))
-    (c .before .before .before .before .before .before .before .before .before .before .before .before .before .args .holder))
-    (c .before .before .before .before .before .before .before .before .before .before .before .before .before .args .p)
+job-is : (c : tie.After-job-at) → let s = S (c .before) in c .job-at .result ≡ jobAt (bs s) (fileOf (bs s) (s .args .holder)) (s .args .p)
 job-is c =
-    let s = bs (c .before .before .before .before .before .before .before .before .before .before .before .before .before) in
-    let f = c .before .before .before .before .before .found .given .0 .0 in
-    c .job-at .ensures
-    ∙ sym (job-place s (whole (c .before)) (c .before .before .before .heading-at .result) f
-    (c .before .before .before .before .before .before .before .before .before .before .before .before .before .args .p)
-    (c .before .before .before .heading-at .ensures))
-    ∙ ap (λ (n : ℕ). jobAt s n (c .before .before .before .before .before .before .before .before .before .before .before .before .before .args .p))
-    (found-is (c .before .before .before) .1)
+    let b = c .before in
+    let s = S b in
+    job-spot (bs s) (accepted b) (H b) (heading-is b) _ (found b) (s .args .p) (c .job-at .result) (here b) (c .job-at .ensures)
+    ∙ ap (λ (f : ℕ). jobAt (bs s) f (s .args .p)) (b .before .before .before .before .find-file .ensures)
 
--- the record is within the bytes
-fits : (c : tie.After-job-at) → c .job-at .result + (4 + jobLen
-    (bundleHeading (bs (c .before .before .before .before .before .before .before .before .before .before .before .before .before)))) ≤ length
-    (bs (c .before .before .before .before .before .before .before .before .before .before .before .before .before))
-unfolding recordSize
+fits : (c : tie.After-job-at) → (c .job-at .result + (4 + jobLen (H (c .before))) ≤ length (bs (S (c .before)))) × (10 ≤ jobLen (H (c .before)))
 fits c =
-    let s = bs (c .before .before .before .before .before .before .before .before .before .before .before .before .before) in
-    rw (job-is c) (job-within s (whole (c .before)) (fileOf s
-    (c .before .before .before .before .before .before .before .before .before .before .before .before .before .args .holder))
-    (c .before .before .before .before .before .before .before .before .before .before .before .before .before .args .p)
-    (rw (found-is (c .before .before .before) .1) at (found-is (c .before .before .before) .0)) (here (c .before)))
-
-low : (c : tie.After-job-at) → 10 ≤ jobLen (bundleHeading (bs
-    (c .before .before .before .before .before .before .before .before .before .before .before .before .before)))
-low c = job-length-low
-    (bundleHeading (bs (c .before .before .before .before .before .before .before .before .before .before .before .before .before)))
+    let b = c .before in
+    job-fits (bs (S b)) (accepted b) (H b) (heading-is b) _ (found b) (S b .args .p) (c .job-at .result) (here b) (c .job-at .ensures)
 
 add-start : tie.Need-add-start
-add-start c = omega (
-  arith,
-  fits c,
-  low c,
-  c .before .before .before .before .before .before .before .before .before .before .before .before .before
-      .good,
-)
+add-start c = omega (arith, fits c, S (c .before) .good)
 
 job-length-requires : tie.Need-job-length-requires
-job-length-requires c κs = rw (c .before .before .before .heading-at .ensures)
-    (bundle-ranges (bs (c .before .before .before .before .before .before .before .before .before .before .before .before .before))
-    (whole (c .before)) .book .d-high)
-
-len-is : (c : tie.After-job-length) → c .job-length .result ≡ jobLen
-    (bundleHeading (bs (c .before .before .before .before .before .before .before .before .before .before .before .before .before .before)))
-len-is c = c .job-length .ensures ∙ ap jobLen (c .before .before .before .before .heading-at .ensures)
+job-length-requires c κs =
+    let b = c .before in
+    file-asks (bs (S b)) (accepted b) (H b) (heading-is b) _ (found b) .0
 
 sub-end : tie.Need-sub-end
-sub-end c = omega (arith, len-is c, low (c .before))
+sub-end c = omega (arith, c .job-length .ensures, fits (c .before))
 
 add-end : tie.Need-add-end
-add-end c = omega (
-  arith,
-  len-is c,
-  fits (c .before),
-  low (c .before),
-  c .before .before .before .before .before .before .before .before .before .before .before .before .before .before .good,
-)
-
-sub-result : tie.Need-sub-result
-sub-result c = omega (arith, len-is c, low (c .before))
-
-part-result-start : tie.Need-part-result-start
-part-result-start c = omega (arith, len-is c, fits (c .before), low (c .before))
+add-end c = omega (arith, c .job-length .ensures, fits (c .before), S (c .before .before) .good)
 
 part-result-end : tie.Need-part-result-end
-part-result-end c = omega (arith, len-is c, fits (c .before), low (c .before))
+part-result-end c = omega (arith, c .job-length .ensures, fits (c .before))
 
 -- the part that is taken
 spot : (l : List ℕ) (at at′ len len′ : ℕ) → at ≡ at′ → len ≡ len′ →
@@ -200,18 +118,33 @@ spot : (l : List ℕ) (at at′ len len′ : ℕ) → at ≡ at′ → len ≡ l
 unfolding part bodySize
 spot l at at′ len len′ e f = rw (e, f, add-sub-cancel-left)
 
-returns-4 : tie.Need-returns-4
-returns-4 c =
-    let a = c .before .before .before .before .before .before .before .before .before .before .before .before .before .before .before .args in
-    let s = bs (c .before .before .before .before .before .before .before .before .before .before .before .before .before .before .before) in
-    spot s (c .before .before .job-at .result) (jobAt s (fileOf s (a .holder)) (a .p)) (c .before .job-length .result) (jobLen (bundleHeading s))
-    (job-is (c .before .before)) (len-is (c .before))
-    ∙ sym (body-part s (a .holder) (a .p) (place (c .before .before .before .before .before) ∙ unless-yes _ 9
-    (lt-ltb _ _ (c .before .before .before .if1 .left))))
+returns-3 : tie.Need-returns-3
+returns-3 c =
+    let b = c .before .before .before in
+    let s = S b in
+    spot (bs s) (c .before .before .job-at .result) (jobAt (bs s) (fileOf (bs s) (s .args .holder)) (s .args .p)) (c .before .job-length .result)
+    (jobLen (bundleHeading (bs s))) (job-is (c .before .before)) (c .before .job-length .ensures ∙ ap jobLen (heading-is b))
+    ∙ sym (body-part (bs s) (s .args .holder) (s .args .p) (none b))
 
 pub fetch-body-spec : {M : Type 1} → statement M
 fetch-body-spec =
     tie.close
-    (tie.spec check-bundle-requires enum-known-checked enum-told slice-aggregate-result returns find-file-requires enum-known-found enum-told-2
-    slice-aggregate-result-2 returns-2 heading-at-requires slice-aggregate-result-3 returns-3 job-at-requires add-start job-length-requires
-    sub-end add-end sub-result part-result-start part-result-end returns-4)
+    (tie.spec
+    (λ c κs. search needs)
+    (λ c. search needs)
+    returns
+    find-file-requires
+    (λ c κs. search needs)
+    (λ c κs. search needs)
+    (λ c κs. search needs)
+    (λ c. search needs)
+    returns-2
+    job-at-requires
+    add-start
+    job-length-requires
+    sub-end
+    add-end
+    (λ c. search needs)
+    (λ c. search needs)
+    part-result-end
+    returns-3)

@@ -4,31 +4,30 @@ use Prim.Native.Nat.{ℕ}
 use mathlib.Core.List.{List}
 use denote.Ref.{now}
 use Rattle.records.specs.Record.{headingOf}
-use Rattle.bundle.specs.Bundle.{fileAt}
 use Rattle.records.specs.declared.Heading.{Heading}
-use Rattle.bundle.proofs.Accepted.{Accepted, accepted, bundle-ranges, heading-within, file-place, file-few}
+use Rattle.bundle.specs.Bundle.{fileAt}
+use Rattle.bundle.proofs.Bundles.{bundle-ok, heading-within, file-place}
+use Rattle.fetch.proofs.Places.{file-asks}
 use Rattle.fetch.proofs.file_holder.Statement.{statement}
 use Rattle.fetch.proofs.file_holder.Tie as tie
 
 abbrev bs : tie.Start → List ℕ
 bs s = now (s .args .bytes)
 
-whole : (s : tie.Start) → Accepted (bs s)
-whole s = accepted (bs s) (s .pre .0)
-
 file-at-requires : tie.Need-file-at-requires
 file-at-requires c κs =
     let s = c .before in
-    let r = bundle-ranges (bs s) (whole s) in
-    rw (s .pre .1) (r .book .d-high, r .jobs-high, file-few (bs s) (whole s) (s .args .f) (s .pre .2))
+    file-asks (bs s) (s .pre .0) (s .args .h) (s .pre .1) (s .args .f) (s .pre .2)
 
 place : (c : tie.After-file-at) → c .file-at .result ≡ fileAt (bs (c .before .before)) (c .before .before .args .f)
-place c = c .file-at .ensures ∙ sym (file-place (bs (c .before .before)) (whole (c .before .before)) (c .before .before .args .h)
-    (c .before .before .args .f) (c .before .before .pre .1))
+place c =
+    let s = c .before .before in
+    c .file-at .ensures ∙ sym (file-place (bs s) (bundle-ok (bs s) (s .pre .0)) (s .args .h) (s .args .f) (s .pre .1))
 
 heading-at-requires : tie.Need-heading-at-requires
-heading-at-requires c κs = rw (place c) (heading-within (bs (c .before .before)) (whole (c .before .before)) (c .before .before .args .f)
-    (c .before .before .pre .2))
+heading-at-requires c κs =
+    let s = c .before .before in
+    rw (place c) (heading-within (bs s) (bundle-ok (bs s) (s .pre .0)) (s .args .f) (s .pre .2))
 
 returns : tie.Need-returns
 returns c =

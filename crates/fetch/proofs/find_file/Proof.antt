@@ -8,7 +8,7 @@ use denote.Ref.{now}
 use Rattle.records.specs.Layout.{fileSize, orderSize}
 use Rattle.bundle.specs.Bundle.{bundleHeading, filesOf}
 use Rattle.records.specs.declared.Heading.{Heading}
-use Rattle.bundle.proofs.Accepted.{Accepted, accepted, bundle-ranges, bundle-within, file-within, heading-within}
+use Rattle.bundle.proofs.Bundles.{BundleOk, bundle-ok, bundle-ranges, bundle-within, file-within, heading-within}
 use Rattle.fetch.proofs.Fetch.{FindAt, find-start, find-yes, find-next, find-no}
 use Rattle.fetch.proofs.find_file.Statement.{statement}
 use Rattle.fetch.proofs.find_file.Tie as tie
@@ -22,8 +22,8 @@ abbrev μ-loop : tie.MeasureT-loop
 abbrev bs : tie.Start Inv-loop μ-loop → List ℕ
 bs s = now (s .args .bytes)
 
-whole : (s : tie.Start Inv-loop μ-loop) → Accepted (bs s)
-whole s = accepted (bs s) (s .pre .0)
+whole : (s : tie.Start Inv-loop μ-loop) → BundleOk (bs s)
+whole s = bundle-ok (bs s) (s .pre .0)
 
 heading-at-requires : tie.Need-heading-at-requires Inv-loop μ-loop
 heading-at-requires c κs = bundle-within (bs (c .before)) (whole (c .before))
@@ -59,9 +59,9 @@ heading-at-requires-2 c κs = rw (c .before .loop .inv .at-is)
 returns : tie.Need-returns Inv-loop μ-loop
 returns c =
     let l = c .before .before .before .before .loop in
-    sym (find-yes (bs (c .before .before .before .before .before .before .before .before))
+    find-yes (bs (c .before .before .before .before .before .before .before .before))
     (c .before .before .before .before .before .before .before .before .args .holder) (l .f) (l .at) (l .inv) (low (c .before .before .before))
-    (ap (λ (h : Heading). h .holder) (sym (c .before .before .heading-at2 .ensures)) ∙ c .if1 .taken))
+    (ap (λ (h : Heading). h .holder) (sym (c .before .before .heading-at2 .ensures)) ∙ c .if1 .taken)
 
 add-at : tie.Need-add-at Inv-loop μ-loop
 add-at c = omega (
@@ -88,8 +88,8 @@ loop-again c =
 returns-2 : tie.Need-returns-2 Inv-loop μ-loop
 returns-2 c =
     let l = c .before .loop in
-    sym (find-no (bs (c .before .before .before .before .before)) (c .before .before .before .before .before .args .holder) (l .f) (l .at) (l .inv)
-    (omega (arith, c .loop-test .left, c .before .before .before .before .before .pre .1)))
+    find-no (bs (c .before .before .before .before .before)) (c .before .before .before .before .before .args .holder) (l .f) (l .at) (l .inv)
+    (omega (arith, c .loop-test .left, c .before .before .before .before .before .pre .1))
 
 pub find-file-spec : {M : Type 1} → statement M
 find-file-spec =

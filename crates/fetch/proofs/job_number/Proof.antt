@@ -1,49 +1,38 @@
 -- `job_number`: the record is within the bytes of an accepted bundle. Assumes nothing.
-use mathlib.Core.Path.{_≡_, sym, ap, _∙_}
+use mathlib.Core.Path.{_≡_, ap, _∙_}
 use Prim.Native.Nat.{ℕ, _+_, _≤_, _<_}
 use mathlib.Core.List.{List}
 use native.Mathlib.Omega.{arith}
 use lib.ListN.{length}
 use denote.Ref.{now}
 use Rattle.records.specs.Num.{leAt}
-use Rattle.records.specs.Layout.{recordSize, bodyAt}
-use Rattle.bundle.specs.Bundle.{bundleHeading, jobAt, numOf}
-use Rattle.records.specs.declared.Heading.{Heading}
-use Rattle.records.proofs.Lengths.{job-length-low}
-use Rattle.bundle.proofs.Accepted.{Accepted, accepted, bundle-ranges, job-within, job-place}
+use Rattle.records.specs.Layout.{bodyAt}
+use Rattle.bundle.specs.Bundle.{numOf, jobAt, filesOf}
+use Rattle.bundle.proofs.Bundles.{bundle-ok}
+use Rattle.fetch.proofs.Places.{job-asks, job-spot, job-fits}
 use Rattle.fetch.proofs.job_number.Statement.{statement}
 use Rattle.fetch.proofs.job_number.Tie as tie
 
 abbrev bs : tie.Start → List ℕ
 bs s = now (s .args .bytes)
 
-whole : (s : tie.Start) → Accepted (bs s)
-whole s = accepted (bs s) (s .pre .0)
-
-here : (s : tie.Start) → s .args .p < bundleHeading (bs s) .jobs
-here s = omega (arith, s .pre .2, ap (λ (h : Heading). h .jobs) (s .pre .1))
+some : (s : tie.Start) → 0 < filesOf (bs s)
+some s = omega (arith, bundle-ok (bs s) (s .pre .0) .files .some)
 
 job-at-requires : tie.Need-job-at-requires
 job-at-requires c κs =
     let s = c .before in
-    let r = bundle-ranges (bs s) (whole s) in
-    rw (s .pre .1) (r .book .d-high, r .jobs-high, omega arith, omega (arith, here s, r .jobs-high))
+    job-asks (bs s) (s .pre .0) (s .args .h) (s .pre .1) 0 (some s) (s .args .p) (omega (arith, s .pre .2))
 
 place : (c : tie.After-job-at) → c .job-at .result ≡ jobAt (bs (c .before .before)) 0 (c .before .before .args .p)
-place c = c .job-at .ensures ∙ sym (job-place (bs (c .before .before)) (whole (c .before .before)) (c .before .before .args .h) 0
-    (c .before .before .args .p) (c .before .before .pre .1))
+place c =
+    let s = c .before .before in
+    job-spot (bs s) (s .pre .0) (s .args .h) (s .pre .1) 0 (some s) (s .args .p) _ (s .pre .2) (c .job-at .ensures)
 
 fits : (c : tie.After-job-at) → bodyAt (c .job-at .result) + 8 ≤ length (bs (c .before .before))
-unfolding recordSize
 fits c =
     let s = c .before .before in
-    omega (
-      arith,
-      place c,
-      job-within (bs s) (whole s) 0 (s .args .p) (omega (arith, whole s .files .some)) (here s),
-      job-length-low
-          (bundleHeading (bs s)),
-    )
+    omega (arith, job-fits (bs s) (s .pre .0) (s .args .h) (s .pre .1) 0 (some s) (s .args .p) _ (s .pre .2) (c .job-at .ensures))
 
 add-word-at : tie.Need-add-word-at
 add-word-at c = omega (arith, fits c, c .before .before .good)

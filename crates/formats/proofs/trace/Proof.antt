@@ -47,7 +47,7 @@ moved c =
     let g = c .before .before .before .got .given in
     read-next (now (c .before .before .before .before .before .before .before .before .before .args .bytes))
     (c .before .before .before .before .before .before .before .loop .at) (g .0 .0) (g .0 .1 .0) (g .0 .1 .1 .0) (g .0 .1 .1 .1 .0)
-    (sym (c .before .before .before .before .before .read .ensures) ∙ g .1)
+    (sym (c .before .before .before .before .before .read .ensures .0) ∙ g .1)
 
 loop-less : tie.Need-loop-less Inv-loop μ-loop
 loop-less c = omega (arith, moved c)

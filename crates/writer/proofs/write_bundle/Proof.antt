@@ -9,6 +9,7 @@ use lib.ListN.{length, length-append}
 use lib.Dec.{eqb}
 use denote.Ref.{now}
 use Rattle.words.specs.Refusal.{kept, unless}
+use Rattle.words.specs.Faults.{lengthFault}
 use Rattle.words.proofs.Refusal.{first-some, first-none, unless-yes, unless-no, kept-none, kept-some}
 use Rattle.records.specs.Layout.{orderSize}
 use Rattle.bundle.specs.Bundle.{filesFault, bundleFault}
@@ -33,7 +34,7 @@ module _ (e : ℕ) (files : List ℕ) (size : ℕ) where
   by-files n = first-some (bundleFault (orderBytes e ++ files)) _ (λ z. n (sym (order-fault e files) ∙ z)) ∙ order-fault e files
 
   by-size : filesFault files 0 ≡ 0 → bundleWriteFault e files size ≡ unless (eqb size (orderSize + length files)) 2
-  unfolding bundleWriteFault
+  unfolding bundleWriteFault lengthFault
   by-size z = first-none (bundleFault (orderBytes e ++ files)) _ (order-fault e files ∙ z)
 
 -- a call with a known fault that is none of 0 leaves its output

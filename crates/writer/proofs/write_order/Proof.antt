@@ -8,6 +8,7 @@ use lib.ListN.{length}
 use lib.Dec.{eqb}
 use denote.Ref.{now}
 use Rattle.words.specs.Refusal.{unless}
+use Rattle.words.specs.Faults.{lengthFault}
 use Rattle.words.proofs.Refusal.{unless-yes, unless-no}
 use Rattle.records.specs.Layout.{orderSize}
 use Rattle.writer.specs.Bytes.{orderBytes}
@@ -18,7 +19,7 @@ use Rattle.writer.proofs.write_order.Statement.{statement}
 use Rattle.writer.proofs.write_order.Tie as tie
 
 returns : tie.Need-returns
-unfolding orderFault
+unfolding orderFault lengthFault
 returns c =
     let n = length (now (c .before .before .args .out)) in
     let e : unless (eqb n orderSize) 2 ≡ 2 = unless-no _ 2 (ne-eqb n orderSize (c .if1 .taken)) in
@@ -31,7 +32,7 @@ same-length : tie.Need-same-length
 same-length c = search needs
 
 returns-2 : tie.Need-returns-2
-unfolding orderFault
+unfolding orderFault lengthFault
 returns-2 c =
     let a = c .before .before .before .before .before .before .args in
     let d = now (a .out) in

@@ -10,7 +10,7 @@ use native.Mathlib.Omega.{arith}
 use denote.Ref.{now}
 use Rattle.records.specs.Layout.{bodyAt, recordSize, bodySize, known}
 use Rattle.records.specs.Record.{lenAt, kindAt}
-use Rattle.records.proofs.Record.{read-end, read-short, read-unknown, read-cut, read-record}
+use Rattle.records.proofs.Record.{read-end, read-short, read-unknown, read-cut, read-record, told}
 use Rattle.records.proofs.Lengths.{known-min}
 use borrow.Author.Needs.{needs}
 use Rattle.records.proofs.Cursor.read.Statement.{statement}
@@ -40,12 +40,12 @@ differs c = c .before .before .before .before .before .if1 .left
 returns : tie.Need-returns
 returns c =
     let a = c .before .before .args in
-    sym (read-end (now (a .bytes)) (a .self .at) (c .if1 .taken))
+    told (now (a .bytes)) (a .self .at) _ (sym (read-end (now (a .bytes)) (a .self .at) (c .if1 .taken)))
 
 returns-2 : tie.Need-returns-2
 returns-2 c =
     let a = c .before .before .before .args in
-    sym (read-short (now (a .bytes)) (a .self .at) (c .before .if1 .left) (omega arith))
+    told (now (a .bytes)) (a .self .at) _ (sym (read-short (now (a .bytes)) (a .self .at) (c .before .if1 .left) (omega arith)))
 
 sub-if3 : tie.Need-sub-if3
 sub-if3 c = search needs
@@ -53,7 +53,7 @@ sub-if3 c = search needs
 returns-3 : tie.Need-returns-3
 returns-3 c =
     let a = c .before .before .before .before .args in
-    sym (read-short (now (a .bytes)) (a .self .at) (c .before .before .if1 .left) (omega arith))
+    told (now (a .bytes)) (a .self .at) _ (sym (read-short (now (a .bytes)) (a .self .at) (c .before .before .if1 .left) (omega arith)))
 
 number-requires : tie.Need-number-requires
 number-requires c κs = search needs
@@ -70,7 +70,7 @@ known-length-requires c κs = search needs
 returns-4 : tie.Need-returns-4
 returns-4 c =
     let o = c .before in
-    sym (read-unknown (bs o) (at o) (differs o) (sym (known-is o) ∙ not-true _ (c .if4 .taken)))
+    told (bs o) (at o) _ (sym (read-unknown (bs o) (at o) (differs o) (sym (known-is o) ∙ not-true _ (c .if4 .taken))))
 
 sub-if5 : tie.Need-sub-if5
 sub-if5 c = search needs
@@ -82,7 +82,7 @@ returns-5 : tie.Need-returns-5
 unfolding recordSize
 returns-5 c =
     let o = c .before .before in
-    sym (read-cut (bs o) (at o) (differs o) (omega (arith, len-is o)))
+    told (bs o) (at o) _ (sym (read-cut (bs o) (at o) (differs o) (omega (arith, len-is o))))
 
 is-known : (c : tie.Else5) → known (kindAt (bs (c .before .before)) (at (c .before .before)))
     (lenAt (bs (c .before .before)) (at (c .before .before))) ≡ true
@@ -107,8 +107,9 @@ returns-6 : tie.Need-returns-6
 unfolding recordSize bodySize
 returns-6 c =
     let o = c .before .before in
-    ap₂ (λ (k l : ℕ). Record k (bodyAt (at o)) (bodySize l) (record { at = at o + recordSize l })) (kind-is o) (len-is o)
-    ∙ sym (read-record (bs o) (at o) (differs o) (is-known c) (omega (arith, len-is o)))
+    told (bs o) (at o) _
+    (ap₂ (λ (k l : ℕ). Record k (bodyAt (at o)) (bodySize l) (record { at = at o + recordSize l })) (kind-is o) (len-is o)
+    ∙ sym (read-record (bs o) (at o) (differs o) (is-known c) (omega (arith, len-is o))))
 
 pub read-spec : {M : Type 1} → statement M
 read-spec =

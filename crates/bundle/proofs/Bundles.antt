@@ -1,5 +1,6 @@
--- What accepted files and bundles are: each file at its place, with no fault, and the last at the end. Assumes nothing.
-use mathlib.Core.Path.{_≡_, sym, _∙_}
+-- What accepted files and bundles are: each file at its place, with no fault, and the last at the end; and what the answer of accepting says.
+-- Assumes nothing.
+use mathlib.Core.Path.{_≡_, refl, sym, ap, subst, _∙_}
 use Prim.Native.Nat.{ℕ, zero, suc, _+_, _-_, _*_, _^_, _≤_, _<_}
 use native.Mathlib.Nat.{mul-le-mul-right, pow-le-pow-right}
 use native.Mathlib.Omega.{arith}
@@ -9,26 +10,19 @@ use lib.ListN.{length}
 use lib.Dec.{ltb, lit<}
 use borrow.Author.Tests.{lt-ltb, ltb-true}
 use Rattle.words.specs.Refusal.{unless, firstOf}
-use Rattle.words.proofs.Refusal.{first-left, first-right, unless-held, firstOf-each}
+use Rattle.words.proofs.Refusal.{first-left, first-right, unless-held, firstOf-each, kept-none}
 use Rattle.records.specs.Layout.{recordSize, headSize, jobLen, jobSize, fileSize, orderKind, orderLen, orderSize}
 use Rattle.records.specs.Record.{framed, headingOf}
-use Rattle.bundle.specs.Bundle.{numOf, prevNum, jobFault, fileFaultAt, placeAt, prevHolder, filesIn, placeFault, filesFault, bundleFault}
-use Rattle.bundle.specs.Bundle.{bundleHeading, filesOf, fileAt, jobAt}
+use Rattle.bundle.specs.Bundle.{numOf, prevNum, jobFault, fileFaultAt, placeAt, prevHolder, filesIn, faultOfFile, filesFault, bundleFault}
+use Rattle.bundle.specs.Bundle.{bundleHeading, filesOf, fileAt, jobAt, noHeading, accepted}
+use Rattle.bundle.specs.Acceptance.{Same, FileOk, FilesOk}
+pub use Rattle.bundle.specs.Acceptance.{BundleOk}
+use Rattle.bundle.specs.declared.Accepted.{Accepted}
 use Rattle.records.specs.declared.Heading.{Heading}
 use Rattle.records.proofs.Lengths.{head-low, file-low}
-use Rattle.records.proofs.Record.{Frame, framed-frame}
-use Rattle.bundle.proofs.Headings.{Ranges, Same, same-head, same-job, JobOk, job-ok}
-use Rattle.bundle.proofs.Files.{FileOk, file-ok, FilesAt, files-start, files-here, files-next, files-count, place-low, place-next, size-low}
-
--- files one after another with no fault
-pub record FilesOk (bs : List ℕ) (start : ℕ) : Type 0 where
-  pub some : 1 ≤ filesIn bs start
-  pub ends : placeAt bs start (filesIn bs start) ≡ length bs
-  pub none : (f : ℕ) → f < filesIn bs start → fileFaultAt bs start (prevHolder bs start f) (placeAt bs start f) ≡ 0
-
-pub record Accepted (bs : List ℕ) : Type 0 where
-  pub order : Frame bs orderKind orderLen 0
-  pub files : FilesOk bs orderSize
+use Rattle.records.proofs.Record.{framed-frame}
+use Rattle.bundle.proofs.Headings.{Ranges, ok-ranges, same-head, same-job, JobOk, job-ok}
+use Rattle.bundle.proofs.Files.{file-ok, FilesAt, files-start, files-here, files-next, files-count, place-low, place-next, size-low}
 
 module _ (bs : List ℕ) (start : ℕ) where
   some-file : start < length bs → placeAt bs start (filesIn bs start) ≡ length bs → 1 ≤ filesIn bs start
@@ -41,7 +35,7 @@ module _ (bs : List ℕ) (start : ℕ) where
       ]
 
   -- from a file where none before it has a fault, the files go on to the end
-  reach : (z : firstOf (placeFault bs start) (length bs) ≡ 0) (k f at prev : ℕ) → length bs ≤ at + k → FilesAt bs start f at prev →
+  reach : (z : firstOf (faultOfFile bs start) (length bs) ≡ 0) (k f at prev : ℕ) → length bs ≤ at + k → FilesAt bs start f at prev →
       (n : ℕ) × (p : ℕ) × FilesAt bs start n (length bs) p
   reach z zero f at prev h j =
       let e : at ≡ length bs = omega (arith, j .within) in
@@ -50,7 +44,7 @@ module _ (bs : List ℕ) (start : ℕ) where
       elim (decLe (suc at) (length bs)) [
         | yes l ↦ (let e : fileFaultAt bs start prev at ≡ 0 =
             sym (files-here bs start f at prev j l)
-            ∙ firstOf-each (placeFault bs start) (length bs) f z (omega (arith, place-low bs start f, j .at-is)) in
+            ∙ firstOf-each (faultOfFile bs start) (length bs) f z (omega (arith, place-low bs start f, j .at-is)) in
             let x = headingOf bs at in
             reach z k (f + 1) (at + fileSize x) (x .holder)
             (omega (arith, head-low x, file-low x)) (files-next bs start f at prev j l e))
@@ -58,7 +52,7 @@ module _ (bs : List ℕ) (start : ℕ) where
       ]
 
   pub files-ok : filesFault bs start ≡ 0 → FilesOk bs start
-  unfolding filesFault placeFault
+  unfolding filesFault faultOfFile
   files-ok r =
       let l = ltb-true start (length bs) (unless-held _ 7 (lit< tt) (first-left (unless (ltb start (length bs)) 7) _ r)) in
       let z = first-right (unless (ltb start (length bs)) 7) _ r in
@@ -70,12 +64,12 @@ module _ (bs : List ℕ) (start : ℕ) where
         ends = ends;
         none = λ f h.
             (let m : placeAt bs start f < length bs = omega (arith, place-next bs start f (filesIn bs start) h, size-low bs start) in
-            rw (lt-ltb (placeAt bs start f) (length bs) m) at (firstOf-each (placeFault bs start) (t .0) f (t .2 .none) (rw c at h)));
+            rw (lt-ltb (placeAt bs start f) (length bs) m) at (firstOf-each (faultOfFile bs start) (t .0) f (t .2 .none) (rw c at h)));
       }
 
-pub accepted : (bs : List ℕ) → bundleFault bs ≡ 0 → Accepted bs
+pub bundle-ok : (bs : List ℕ) → bundleFault bs ≡ 0 → BundleOk bs
 unfolding bundleFault
-accepted bs e =
+bundle-ok bs e =
     record {
       order = framed-frame bs orderKind orderLen 0 (unless-held _ 7 (lit< tt) (first-left (unless (framed bs orderKind orderLen 0) 7) _ e));
       files = files-ok bs orderSize (first-right (unless (framed bs orderKind orderLen 0) 7) _ e);
@@ -124,15 +118,54 @@ module _ (bs : List ℕ) (start : ℕ) (a : FilesOk bs start) where
       let w : headingOf bs (placeAt bs start f) .holder ≤ headingOf bs start .params .n = rw (same-at f h .params-is) u in
       omega (arith, holder-low f h)
 
+-- ---- the answer of accepting, case by case
+
+module _ (bs : List ℕ) where
+  pub accepted-refused : (c : ℕ) → c ≡ bundleFault bs → (c ≡ 0 → ⊥) → record { fault = c; files = 0; heading = noHeading } ≡ accepted bs
+  unfolding accepted
+  accepted-refused zero e n = absurd (n refl)
+  accepted-refused (suc c) e n = rw (sym e)
+
+  pub accepted-whole : (files : ℕ) (h : Heading) → bundleFault bs ≡ 0 → files ≡ filesOf bs → h ≡ bundleHeading bs →
+      record { fault = 0; files = files; heading = h } ≡ accepted bs
+  unfolding accepted
+  accepted-whole files h z f e = rw (z, f, e)
+
+module _ (bs : List ℕ) (r : Accepted) (e : r ≡ accepted bs) where
+  -- where it refuses
+  pub accept-fault : r .fault ≡ bundleFault bs
+  unfolding accepted
+  accept-fault = ap (λ (a : Accepted). a .fault) e
+
+  -- where it does not
+  module _ (z : r .fault ≡ 0) where
+    pub accept-none : bundleFault bs ≡ 0
+    accept-none = sym accept-fault ∙ z
+
+    pub accept-files : r .files ≡ filesOf bs
+    unfolding accepted
+    accept-files = ap (λ (a : Accepted). a .files) e ∙ kept-none (bundleFault bs) 0 (filesOf bs) accept-none
+
+    pub accept-heading : r .heading ≡ bundleHeading bs
+    unfolding accepted
+    accept-heading = ap (λ (a : Accepted). a .heading) e ∙ kept-none (bundleFault bs) noHeading (bundleHeading bs) accept-none
+
 -- ---- a bundle by file and place
 
-module _ (bs : List ℕ) (a : Accepted bs) where
+module _ (bs : List ℕ) (a : BundleOk bs) where
   -- the first heading's ranges, and that the bytes hold it
   pub bundle-ranges : Ranges (bundleHeading bs)
-  bundle-ranges = first-file bs orderSize (a .files) .heading .ranges
+  bundle-ranges = ok-ranges (bundleHeading bs) (first-file bs orderSize (a .files) .heading .ranges)
+
+  pub ranges-of : (h : Heading) → h ≡ bundleHeading bs → Ranges h
+  ranges-of h e = subst Ranges (sym e) bundle-ranges
 
   pub bundle-within : orderSize + headSize (bundleHeading bs) ≤ length bs
   bundle-within = first-file bs orderSize (a .files) .heading .frame .within
+
+  -- the byte of the error bound is there
+  pub order-within : orderSize ≤ length bs
+  order-within = omega (arith, bundle-within)
 
   -- each job is within the bytes
   pub job-within : (f p : ℕ) → f < filesOf bs → p < bundleHeading bs .jobs → jobAt bs f p + jobSize (bundleHeading bs) ≤ length bs
@@ -172,8 +205,11 @@ module _ (bs : List ℕ) (a : Accepted bs) where
   unfolding jobAt placeAt
   job-place h f p e = rw e
 
-  pub file-few : (f : ℕ) → f < filesOf bs → f ≤ 63
-  file-few f l =
+  pub files-most : filesOf bs ≤ 63
+  files-most =
       let b = bundle-ranges .book in
       let q : 2 ^ bundleHeading bs .params .d ≤ 2 ^ 6 = pow-le-pow-right {n = 2} (lit< tt) (b .d-high) in
       omega (arith, files-few bs orderSize (a .files), b .n-high)
+
+  pub file-few : (f : ℕ) → f < filesOf bs → f ≤ 63
+  file-few f l = omega (arith, files-most)
