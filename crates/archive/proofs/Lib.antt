@@ -1,11 +1,7 @@
-pub mod Values
-pub mod Accepted
-pub mod Runs
-pub mod Faults
+pub mod Shares
 pub mod Loaded
-pub mod Present
-pub mod Names
+pub mod Calls
 pub mod Opens
+pub mod Names
 pub mod Sums
 pub mod Totals
-pub mod Pass

@@ -1,35 +1,104 @@
--- The shares of a bundle in arrays, as the decoder is asked about them. Assumes nothing.
-use mathlib.Core.Path.{_≡_, refl, ap, ap₂, _∙_}
+-- The shares of a bundle in arrays, as the decoder is asked about them: they are the files' shares, by the holders and the rows that the loaders
+-- leave. Assumes nothing.
+use mathlib.Core.Path.{_≡_, refl, sym, ap, ap₂, _∙_}
+use mathlib.Core.Bool.{Bool, true, false}
 use mathlib.Core.List.{List, [], _∷_, _++_}
-use Prim.Native.Nat.{ℕ, zero, suc, _+_, _<_}
+use Prim.Native.Nat.{ℕ, zero, suc, _+_, _≤_, _<_}
 use native.Mathlib.Omega.{arith}
-use lib.ListN.{length, take, getD, List·getD-append}
+use lib.ListN.{length, take, drop, getD, List·getD-append}
+use lib.Seq.{length-front, length-take-le}
+use Rattle.words.specs.Params.{paramsOk}
+use Rattle.words.specs.Refusal.{unless, WIDE-WORD}
+use Rattle.words.specs.Word.{inWidth}
+use Rattle.words.proofs.InRange.{range-ok}
+use Rattle.words.proofs.Refusal.{unless-yes, unless-no}
 use Rattle.galois.specs.Element.{Element, held}
 use Rattle.galois.proofs.Held.{held-take}
 use Rattle.polynomial.specs.Rows.{Rows}
+use Rattle.codewords.specs.Codeword.{Share}
+use Rattle.codewords.specs.Opening.{declines, unlessFault, answerTo}
+use Rattle.codewords.specs.WellFormed.{IsElement, InWidth}
 use Rattle.level.specs.Shares.{shareAt, sharesFrom, sharesOf}
-use Rattle.bundle.specs.Bundle.{filesOf}
-use Rattle.archive.specs.Archive.{holderOf, valuesFrom, shareBy, sharesBy}
-use Rattle.archive.proofs.Values.{values-count, value-at}
+use Rattle.decoder.specs.Decoded.{Ordered}
+use Rattle.records.specs.declared.Heading.{Heading}
+use Rattle.bundle.specs.Bundle.{bundleFault, bundleHeading, paramsOf, allowanceOf, filesOf, holderOf}
+use Rattle.bundle.proofs.Bundles.{bundle-ok, bundle-ranges, files-most}
+use Rattle.totals.specs.Values.{valuesFrom}
+use Rattle.totals.proofs.Values.{values-count, value-at, values-same}
+use Rattle.archive.specs.Archive.{shareBy, sharesBy}
+use Rattle.archive.specs.Loaded.{sharesIn, openingOf}
+use Rattle.archive.proofs.Shares.{shares-ordered, shares-width}
 
 front : {A : Type 0} (f : ℕ → A) (n : ℕ) (rest : List A) (z : A) (i : ℕ) → i < n → getD (valuesFrom f 0 n ++ rest) i z ≡ f i
 front f n rest z i h = List·getD-append (valuesFrom f 0 n) rest z i (rw (values-count f 0 n) h) ∙ value-at f n i z h
 
--- the first of them, in rows of six words, are the files' shares
-module _ (bs : List ℕ) (w : ℕ → Element) (d : ℕ) (hs : List ℕ) (ys : Rows) (hr : List ℕ) (yr : Rows) (n : ℕ) (files : n ≡ filesOf bs)
-    (holders : hs ≡ valuesFrom (holderOf bs) 0 n ++ hr) (rows : ys ≡ valuesFrom (λ f. held d (w f)) 0 n ++ yr)
-    (long : (f : ℕ) → length (w f) ≡ d) where
-  one : (i : ℕ) → i < n → shareAt d hs ys i ≡ shareBy bs w i
-  one i h =
-      let p : getD hs i 0 ≡ holderOf bs i = ap (λ (l : List ℕ). getD l i 0) holders ∙ front (holderOf bs) n hr 0 i h in
-      let q : take d (getD ys i []) ≡ w i =
-      ap (λ (l : Rows). take d (getD l i [])) rows ∙ ap (take d) (front (λ f. held d (w f)) n yr [] i h) ∙ held-take d (w i) (long i) in
-      λ j. record { holder = p j; words = q j }
+-- the first of them are the files' shares
+module _ (bs : List ℕ) (h : Heading) (e : h ≡ bundleHeading bs) (n : ℕ) (files : n ≡ filesOf bs) where
+  abbrev d : ℕ
+  d = h .params .d
 
-  from : (m i : ℕ) → i + m ≡ n → sharesFrom d hs ys i m ≡ valuesFrom (shareBy bs w) i m
+  d-is : d ≡ paramsOf bs .d
+  d-is = ap (λ (x : Heading). x .params .d) e
+
+  pub arrays : (hs hr : List ℕ) (ys : Rows) → hs ≡ valuesFrom (holderOf bs) 0 n ++ hr → sharesOf d n hs ys ≡ sharesIn bs ys
   unfolding sharesFrom valuesFrom
-  from zero i e = refl
-  from (suc m) i e = ap₂ _∷_ (one i (omega arith)) (from m (suc i) (omega arith))
+  arrays hs hr ys holders = from n 0 (omega arith) ∙ ap (valuesFrom (shareBy bs words) 0) files
+    where
+      words : ℕ → Element
+      words f = take (paramsOf bs .d) (getD ys f [])
 
-  pub loaded : sharesOf d n hs ys ≡ sharesBy bs w
-  loaded = from n 0 (omega arith) ∙ ap (valuesFrom (shareBy bs w) 0) files
+      one : (i : ℕ) → i < n → shareAt d hs ys i ≡ shareBy bs words i
+      one i l =
+          let p : getD hs i 0 ≡ holderOf bs i = ap (λ (x : List ℕ). getD x i 0) holders ∙ front (holderOf bs) n hr 0 i l in
+          let q : take d (getD ys i []) ≡ words i = ap (λ (x : ℕ). take x (getD ys i [])) d-is in
+          λ j. record { holder = p j; words = q j }
+
+      from : (m i : ℕ) → i + m ≡ n → sharesFrom d hs ys i m ≡ valuesFrom (shareBy bs words) i m
+      from zero i x = refl
+      from (suc m) i x = ap₂ _∷_ (one i (omega arith)) (from m (suc i) (omega arith))
+
+  seen-is : (seen : ℕ) (b : Bool) → inWidth (h .params .k) seen ≡ b → inWidth (paramsOf bs .k) seen ≡ b
+  seen-is seen b x = ap (λ (y : Heading). inWidth (y .params .k) seen) (sym e) ∙ x
+
+  -- rows that hold the words w
+  module _ (w : ℕ → Element) (long : (f : ℕ) → length (w f) ≡ paramsOf bs .d) (ys yr : Rows)
+      (rows : ys ≡ valuesFrom (λ f. held d (w f)) 0 n ++ yr) where
+    pub loaded : sharesIn bs ys ≡ sharesBy bs w
+    loaded =
+        values-same (shareBy bs (λ f. take (paramsOf bs .d) (getD ys f []))) (shareBy bs w) 0 (filesOf bs)
+        (λ i l u. ap (λ (x : Element). shareBy bs (λ f. x) i) (word i (omega (arith, files))))
+      where
+        word : (i : ℕ) → i < n → take (paramsOf bs .d) (getD ys i []) ≡ w i
+        word i l =
+            ap₂ (λ (x : ℕ) (y : Rows). take x (getD y i [])) (sym d-is) rows
+            ∙ ap (take d) (front (λ f. held d (w f)) n yr [] i l)
+            ∙ held-take d (w i) (long i ∙ sym d-is)
+
+    pub loaded-width : ((f : ℕ) → f < filesOf bs → IsElement (paramsOf bs .k) (paramsOf bs .d) (w f)) →
+        InWidth (h .params .k) (h .params .d) (sharesIn bs ys)
+    loaded-width x = rw (loaded, e) (shares-width bs w x)
+
+    pub loaded-opens : (seen : ℕ) (b : Bool) → inWidth (h .params .k) seen ≡ b →
+        openingOf bs seen ys ≡ unlessFault (unless b WIDE-WORD) (answerTo (paramsOf bs) (allowanceOf bs) (sharesBy bs w))
+    loaded-opens seen b x = rw (seen-is seen b x, loaded)
+
+  pub loaded-length : {A : Type 0} (f : ℕ → A) (ys old : List A) → bundleFault bs ≡ 0 → length old ≡ 63 → ys ≡ valuesFrom f 0 n ++ drop n old →
+      length ys ≡ 63
+  loaded-length f ys old z l x =
+      let m : n ≤ length old = omega (arith, files, l, files-most bs (bundle-ok bs z)) in
+      ap length x ∙ length-front old (valuesFrom f 0 n) n (values-count f 0 n ∙ sym (length-take-le n old m)) ∙ l
+
+  -- what the decoder asks
+  pub askable : bundleFault bs ≡ 0 → (ys : Rows) → (paramsOk (h .params) ≡ true) × (n ≤ 63) × Ordered (h .params .n) (sharesIn bs ys)
+  askable z ys =
+      rw (e, files)
+      (range-ok (paramsOf bs) (bundle-ranges bs (bundle-ok bs z) .book), files-most bs (bundle-ok bs z), shares-ordered bs z _)
+
+  -- what the shares open to, by the width that was seen
+  module _ (ys : Rows) (seen : ℕ) where
+    pub opens-wide : inWidth (h .params .k) seen ≡ false → openingOf bs seen ys ≡ declines WIDE-WORD
+    opens-wide x = rw (unless-no _ WIDE-WORD (seen-is seen false x))
+
+    pub opens-narrow : (ss : List Share) → ss ≡ sharesIn bs ys → (a : ℕ) → a ≡ allowanceOf bs → inWidth (h .params .k) seen ≡ true →
+        answerTo (h .params) a ss ≡ openingOf bs seen ys
+    opens-narrow ss q a m x = rw (unless-yes _ WIDE-WORD (seen-is seen true x), q, m, e)

@@ -1,143 +1,108 @@
 -- Demand 3 for the calls that open a job by its place, or a run. Where none of the refusals ahead of 5 applies (`PlaceClear`, `RunClear`): with fewer
 -- than t + 1 + 2e files the call declines with 5 (`place-few`, `run-few`). With that many or more (`place-decides`, `run-decides`) it gives the
--- free term of a polynomial of degree at most t that differs from e shares or fewer, if there is one, and names exactly the holders whose shares
--- differ; and it declines, with 6, exactly when there is none. Assumes nothing.
-use mathlib.Core.Path.{_≡_, refl, sym, ap, _∙_, subst}
-use mathlib.Core.Bool.{true}
-use mathlib.Core.List.{List, []}
-use mathlib.Core.Option.{Option, none, some}
-use Prim.Native.Nat.{ℕ, _+_, _-_, _*_, _≤_, _<_}
+-- polynomial of degree at most t that differs from e shares or fewer, exactly when there is one, of whose holders at most e are named; and it
+-- declines, with 6, exactly when there is none. So a run that opens is clear, and has files enough (`run-opened`). Assumes nothing.
+use mathlib.Core.Path.{_≡_, refl, sym, _∙_, subst}
+use mathlib.Core.List.{List}
+use Prim.Native.Nat.{ℕ, zero, suc, _+_, _-_, _*_}
+use native.Mathlib.Decide.{decLe}
 use native.Mathlib.Omega.{arith}
-use lib.Count.{ones}
-use lib.ListN.{length, getD}
-use borrow.Author.Tests.{lt-ltb}
-use Rattle.words.specs.Refusal.{first, unless}
-use Rattle.words.specs.declared.Params.{Params}
-use Rattle.words.proofs.InRange.{InRange}
-use Rattle.words.proofs.Refusal.{first-none, unless-yes}
-use Rattle.algebra.proofs.Shares.{all-map}
+use Rattle.words.specs.Faults.{lengthFault}
+use Rattle.words.specs.Refusal.{unless, WIDE-WORD, TOO-FEW-SHARES}
+use Rattle.words.proofs.InRange.{range-ok}
+use Rattle.words.proofs.Faults.{length-clear, clear-length}
+use Rattle.words.proofs.Refusal.{first-left, first-right, first-none, unless-held, unless-yes}
 use Rattle.galois.specs.Element.{Element}
-use Rattle.ring.specs.Calls.{lengthFault}
-use Rattle.codewords.specs.Codeword.{Share, Polynomial, errors, errorSet, codeword}
-use Rattle.codewords.specs.WellFormed.{IsPoly, Holders}
-use Rattle.codewords.proofs.ErrorSet.{ones-errors}
-use Rattle.codewords.proofs.Unique.{codeword-sound, codeword-none, none-codeword, codeword-complete}
-use Rattle.sharing.specs.Opening.{Opening, declines, gives, faultOf, fromCodeword, answerTo}
-use Rattle.sharing.proofs.Opens.{Within, Source, gives-inj, gives-not, answer-few, answer-from}
-use Rattle.bundle.specs.Bundle.{bundleFault, bundleHeading, filesOf}
-use Rattle.bundle.proofs.Accepted.{accepted, bundle-ranges}
-use Rattle.archive.specs.Archive.{paramsOf, allowanceOf, sharesBy, sharesAt, sharesOver, filesInWidth, isPlace, isRun, placeOpening, runOpening}
+use Rattle.codewords.specs.Codeword.{Polynomial}
+use Rattle.codewords.specs.Demand.{Decides}
+use Rattle.codewords.specs.Opening.{Opening, declines, opens, unlessFault, answerTo}
+use Rattle.codewords.proofs.Opening.{opens-not, unless-none, answer-few, answer-decides}
+use Rattle.bundle.specs.Bundle.{bundleHeading, bundleFault, paramsOf, allowanceOf, filesOf}
+use Rattle.bundle.proofs.Bundles.{bundle-ok, bundle-ranges}
+use Rattle.fetch.specs.Fetch.{placeFault, runFault}
+use Rattle.fetch.proofs.Fetch.{place-none, run-in, run-none}
+use Rattle.archive.specs.Archive.{sharesBy, sharesAt, sharesOver, placeInWidth, filesInWidth, placeOpening, runOpening, openingFault}
 use Rattle.archive.specs.Archive.{openPlace, openRun}
-use Rattle.archive.proofs.Faults.{length-right, run-yes}
-use Rattle.archive.proofs.Present.{shares-count, shares-holders}
+use Rattle.archive.specs.Clear.{PlaceClear, RunClear, Enough, Few}
+use Rattle.archive.proofs.Shares.{shares-count, shares-holders}
 
--- what demand 3 says of an opening o of the shares ss
-pub record Decides (p : Params) (e : ℕ) (ss : List Share) (o : Opening) : Type 0 where
-  pub finds : (q : Polynomial) → Within p ss e q → o ≡ gives (errorSet (p .k) (p .d) q ss) (getD q 0 [])
-  pub found : (w : ℕ) (vs : List ℕ) → o ≡ gives w vs → Source p ss e w vs
-  pub names-few : (w : ℕ) (vs : List ℕ) → o ≡ gives w vs → ones w ≤ e
-  pub no-curve : ((q : Polynomial) → IsPoly (p .k) (p .d) (p .t) q → e < errors (p .k) (p .d) q ss) → o ≡ declines 6
-  pub none-within : (c : ℕ) → o ≡ declines c → (c ≡ 6) × ((q : Polynomial) → IsPoly (p .k) (p .d) (p .t) q → e < errors (p .k) (p .d) q ss)
+clear-fault : (bs : List ℕ) (n w c : ℕ) → bundleFault bs ≡ 0 → n ≡ paramsOf bs .d → w ≡ 1 → c ≡ 0 → openingFault bs n w c ≡ 0
+unfolding openingFault
+clear-fault bs n w c z o u e =
+    first-none (bundleFault bs) _ z
+    ∙ first-none (lengthFault (paramsOf bs .d) n) _ (clear-length (paramsOf bs .d) n o)
+    ∙ first-none (lengthFault 1 w) c (clear-length 1 w u)
+    ∙ e
 
--- ---- the answer to shares
-
-module _ (p : Params) (range : InRange p) (e : ℕ) (ss : List Share) (holders : Holders (p .d) ss) (enough : p .t + 1 + 2 * e ≤ length ss) where
-  from : (o : Option Polynomial) → codeword (p .k) (p .d) (p .t) e ss ≡ o → answerTo p e ss ≡ fromCodeword (p .k) (p .d) ss o
-  from o = answer-from p e ss o enough
-
-  source : (w : ℕ) (vs : List ℕ) → answerTo p e ss ≡ gives w vs → Source p ss e w vs
-  source w vs g = go (codeword (p .k) (p .d) (p .t) e ss) refl
-    where
-      go : (o : Option Polynomial) → codeword (p .k) (p .d) (p .t) e ss ≡ o → Source p ss e w vs
-      go none c = gives-not (sym g ∙ from none c)
-      go (some q) c =
-          let s = codeword-sound (p .k) (p .d) (p .t) e ss q c in
-          let i = gives-inj (sym g ∙ from (some q) c) in
-          record { q = q; within = record { poly = s .0; near = s .1 }; names = i .0; free-term = i .1 }
-
-  nothing : (c : ℕ) → answerTo p e ss ≡ declines c → (c ≡ 6) × ((q : Polynomial) → IsPoly (p .k) (p .d) (p .t) q → e < errors (p .k) (p .d) q ss)
-  nothing c g = go (codeword (p .k) (p .d) (p .t) e ss) refl
-    where
-      go : (o : Option Polynomial) → codeword (p .k) (p .d) (p .t) e ss ≡ o →
-          (c ≡ 6) × ((q : Polynomial) → IsPoly (p .k) (p .d) (p .t) q → e < errors (p .k) (p .d) q ss)
-      go none o = (ap faultOf (sym g ∙ from none o), codeword-none (p .k) (p .d) (p .t) e ss o)
-      go (some q) o = gives-not (sym (from (some q) o) ∙ g)
-
-  pub answer-decides : Decides p e ss (answerTo p e ss)
-  answer-decides =
-      record {
-        finds = λ q w.
-            from (some q)
-            (codeword-complete (p .d) (range .d-low) (range .d-high) (p .k) (p .t) e ss q holders (omega (arith, enough)) (w .poly) (w .near));
-        found = source;
-        names-few = λ w vs g. (let s = source w vs g in
-            rw (s .names, ones-errors (p .k) (p .d) (s .q) ss (all-map (λ (r : Share) x. x .0) ss (holders .0)) (holders .1)) (s .within .near));
-        no-curve = λ f. from none (none-codeword (p .k) (p .d) (p .t) e ss f);
-        none-within = nothing;
-      }
-
--- ---- a bundle
-
--- "none of the refusals ahead of" 5
-pub record PlaceClear (bs : List ℕ) (p out : ℕ) : Type 0 where
-  pub no-fault : bundleFault bs ≡ 0
-  pub output : out ≡ paramsOf bs .d
-  pub place : p < bundleHeading bs .jobs
-  pub width : filesInWidth bs p 1 ≡ true
-
-pub record RunClear (bs : List ℕ) (a b out : ℕ) : Type 0 where
-  pub no-fault : bundleFault bs ≡ 0
-  pub output : out ≡ paramsOf bs .d
-  pub low : a ≤ b
-  pub high : b ≤ bundleHeading bs .jobs
-  pub width : filesInWidth bs a (b - a) ≡ true
-
--- as many shares as are needed
-abbrev pub Enough : List ℕ → Type 0
-Enough bs = paramsOf bs .t + 1 + 2 * allowanceOf bs ≤ filesOf bs
-
-abbrev pub Few : List ℕ → Type 0
-Few bs = filesOf bs < paramsOf bs .t + 1 + 2 * allowanceOf bs
-
-pub place-answer : (bs : List ℕ) (p out : ℕ) → PlaceClear bs p out → openPlace bs p out ≡ answerTo (paramsOf bs) (allowanceOf bs) (sharesAt bs p)
+place-answer : (bs : List ℕ) (p n w : ℕ) → PlaceClear bs p n w → openPlace bs p n w ≡ answerTo (paramsOf bs) (allowanceOf bs) (sharesAt bs p)
 unfolding openPlace placeOpening
-place-answer bs p out c =
-    let e : first (bundleFault bs) (first (lengthFault (paramsOf bs .d) out) (unless (isPlace bs p) 9)) ≡ 0 =
-    first-none (bundleFault bs) _ (c .no-fault)
-    ∙ length-right (paramsOf bs .d) out _ (c .output)
-    ∙ unless-yes (isPlace bs p) 9 (lt-ltb p (bundleHeading bs .jobs) (c .place)) in
-    rw (e, unless-yes (filesInWidth bs p 1) 3 (c .width))
+place-answer bs p n w c =
+    unless-none (openingFault bs n w (placeFault (bundleHeading bs) p)) (placeOpening bs p)
+    (clear-fault bs n w _ (c .no-fault) (c .output) (c .wrong-output) (place-none (bundleHeading bs) p (c .place)))
+    ∙ unless-none (unless (placeInWidth bs p) WIDE-WORD) _ (unless-yes (placeInWidth bs p) WIDE-WORD (c .width))
 
-pub run-answer : (bs : List ℕ) (a b out : ℕ) → RunClear bs a b out →
-    openRun bs a b out ≡ answerTo (paramsOf bs) (allowanceOf bs) (sharesOver bs a (b - a))
+run-answer : (bs : List ℕ) (a b n w : ℕ) → RunClear bs a b n w →
+    openRun bs a b n w ≡ answerTo (paramsOf bs) (allowanceOf bs) (sharesOver bs a (b - a))
 unfolding openRun runOpening
-run-answer bs a b out c =
-    let e : first (bundleFault bs) (first (lengthFault (paramsOf bs .d) out) (unless (isRun bs a b) 9)) ≡ 0 =
-    first-none (bundleFault bs) _ (c .no-fault)
-    ∙ length-right (paramsOf bs .d) out _ (c .output)
-    ∙ unless-yes (isRun bs a b) 9 (run-yes bs (bundleHeading bs) refl a b (c .low) (c .high)) in
-    rw (e, unless-yes (filesInWidth bs a (b - a)) 3 (c .width))
+run-answer bs a b n w c =
+    unless-none (openingFault bs n w (runFault (bundleHeading bs) a b)) (runOpening bs a (b - a))
+    (clear-fault bs n w _ (c .no-fault) (c .output) (c .wrong-output) (run-none (bundleHeading bs) a b (c .low) (c .high)))
+    ∙ unless-none (unless (filesInWidth bs a (b - a)) WIDE-WORD) _ (unless-yes (filesInWidth bs a (b - a)) WIDE-WORD (c .width))
 
 shares-decide : (bs : List ℕ) (w : ℕ → Element) → bundleFault bs ≡ 0 → Enough bs →
     Decides (paramsOf bs) (allowanceOf bs) (sharesBy bs w) (answerTo (paramsOf bs) (allowanceOf bs) (sharesBy bs w))
 shares-decide bs w z m =
-    answer-decides (paramsOf bs) (bundle-ranges bs (accepted bs z) .book) (allowanceOf bs) (sharesBy bs w) (shares-holders bs z w)
+    answer-decides (paramsOf bs) (range-ok (paramsOf bs) (bundle-ranges bs (bundle-ok bs z) .book)) (allowanceOf bs) (sharesBy bs w) (shares-holders bs z w)
     (rw (shares-count bs w) m)
 
-pub place-few : (bs : List ℕ) (p out : ℕ) → PlaceClear bs p out → Few bs → openPlace bs p out ≡ declines 5
-place-few bs p out c m =
-    place-answer bs p out c ∙ answer-few (paramsOf bs) (allowanceOf bs) (sharesAt bs p) (rw (shares-count bs _) m)
+pub place-few : (bs : List ℕ) (p n w : ℕ) → PlaceClear bs p n w → Few bs → openPlace bs p n w ≡ declines TOO-FEW-SHARES
+place-few bs p n w c m =
+    place-answer bs p n w c ∙ answer-few (paramsOf bs) (allowanceOf bs) (sharesAt bs p) (rw (shares-count bs _) m)
 
-pub run-few : (bs : List ℕ) (a b out : ℕ) → RunClear bs a b out → Few bs → openRun bs a b out ≡ declines 5
-run-few bs a b out c m =
-    run-answer bs a b out c ∙ answer-few (paramsOf bs) (allowanceOf bs) (sharesOver bs a (b - a)) (rw (shares-count bs _) m)
+pub run-few : (bs : List ℕ) (a b n w : ℕ) → RunClear bs a b n w → Few bs → openRun bs a b n w ≡ declines TOO-FEW-SHARES
+run-few bs a b n w c m =
+    run-answer bs a b n w c ∙ answer-few (paramsOf bs) (allowanceOf bs) (sharesOver bs a (b - a)) (rw (shares-count bs _) m)
 
-pub place-decides : (bs : List ℕ) (p out : ℕ) → PlaceClear bs p out → Enough bs →
-    Decides (paramsOf bs) (allowanceOf bs) (sharesAt bs p) (openPlace bs p out)
-place-decides bs p out c m =
-    subst (Decides (paramsOf bs) (allowanceOf bs) (sharesAt bs p)) (sym (place-answer bs p out c)) (shares-decide bs _ (c .no-fault) m)
+pub place-decides : (bs : List ℕ) (p n w : ℕ) → PlaceClear bs p n w → Enough bs →
+    Decides (paramsOf bs) (allowanceOf bs) (sharesAt bs p) (openPlace bs p n w)
+place-decides bs p n w c m =
+    subst (Decides (paramsOf bs) (allowanceOf bs) (sharesAt bs p)) (sym (place-answer bs p n w c)) (shares-decide bs _ (c .no-fault) m)
 
-pub run-decides : (bs : List ℕ) (a b out : ℕ) → RunClear bs a b out → Enough bs →
-    Decides (paramsOf bs) (allowanceOf bs) (sharesOver bs a (b - a)) (openRun bs a b out)
-run-decides bs a b out c m =
-    subst (Decides (paramsOf bs) (allowanceOf bs) (sharesOver bs a (b - a))) (sym (run-answer bs a b out c)) (shares-decide bs _ (c .no-fault) m)
+pub run-decides : (bs : List ℕ) (a b n w : ℕ) → RunClear bs a b n w → Enough bs →
+    Decides (paramsOf bs) (allowanceOf bs) (sharesOver bs a (b - a)) (openRun bs a b n w)
+run-decides bs a b n w c m =
+    subst (Decides (paramsOf bs) (allowanceOf bs) (sharesOver bs a (b - a))) (sym (run-answer bs a b n w c)) (shares-decide bs _ (c .no-fault) m)
+
+-- ---- what opens
+
+unless-opens : (c : ℕ) (o : Opening) (q : Polynomial) → unlessFault c o ≡ opens q → (c ≡ 0) × (o ≡ opens q)
+unless-opens zero o q e = (refl, e)
+unless-opens (suc c) o q e = opens-not (sym e)
+
+shares-enough : (bs : List ℕ) (w : ℕ → Element) (q : Polynomial) → answerTo (paramsOf bs) (allowanceOf bs) (sharesBy bs w) ≡ opens q → Enough bs
+shares-enough bs w q e =
+    elim (decLe (paramsOf bs .t + 1 + 2 * allowanceOf bs) (filesOf bs)) [
+      | yes m ↦ m
+      | no m ↦ (let few : Few bs = omega arith in
+          opens-not (sym e ∙ answer-few (paramsOf bs) (allowanceOf bs) (sharesBy bs w) (rw (shares-count bs w) few)))
+    ]
+
+pub run-opened : (bs : List ℕ) (a b n w : ℕ) (q : Polynomial) → openRun bs a b n w ≡ opens q → RunClear bs a b n w × Enough bs
+unfolding openRun runOpening openingFault
+run-opened bs a b n w q e =
+    let d = paramsOf bs .d in
+    let x = unless-opens (openingFault bs n w (runFault (bundleHeading bs) a b)) (runOpening bs a (b - a)) q e in
+    let y = unless-opens (unless (filesInWidth bs a (b - a)) WIDE-WORD) _ q (x .1) in
+    let z₁ = first-right (bundleFault bs) _ (x .0) in
+    let z₂ = first-right (lengthFault d n) _ z₁ in
+    let run = run-in (bundleHeading bs) a b (first-right (lengthFault 1 w) _ z₂) in (
+      record {
+        no-fault = first-left (bundleFault bs) _ (x .0);
+        output = length-clear d n (first-left (lengthFault d n) _ z₁);
+        wrong-output = length-clear 1 w (first-left (lengthFault 1 w) _ z₂);
+        low = run .0;
+        high = run .1;
+        width = unless-held (filesInWidth bs a (b - a)) WIDE-WORD (omega arith) (y .0);
+      },
+      shares-enough bs _ q (y .1),
+    )

@@ -1,34 +1,72 @@
--- What the theorems on totals speak of: the jobs of a run as they were dealt, and the files that hold something else. Assumes nothing.
-use Prim.Native.Nat.{ℕ, zero, suc, _+_}
+-- What the theorems on dealt jobs in a bundle speak of: the polynomials that deal the jobs of a run and their sum, the files that hold something
+-- else, and what a place or a run opens to. Assumes nothing.
+use Prim.Native.Nat.{ℕ, zero, suc, _+_, _-_, _<_}
+use mathlib.Core.Path.{_≡_}
 use mathlib.Core.Bool.{Bool, not}
-use mathlib.Core.List.{List, []}
-use lib.ListN.{getD}
-use Rattle.galois.specs.Element.{Element, point, same}
-use Rattle.polynomial.specs.Polynomial.{Polynomial, value}
-use Rattle.codewords.specs.Codeword.{when}
-use Rattle.bundle.specs.Bundle.{filesOf}
+use mathlib.Core.List.{List, [], _∷_}
+use lib.ListN.{getD, replicate}
+use Rattle.algebra.specs.Shares.{count}
+use Rattle.galois.specs.Element.{Element, zeroE, point, same}
+use Rattle.codewords.specs.Codeword.{Share, Polynomial, value, errorSet}
+use Rattle.codewords.specs.Linear.{sums}
+use Rattle.codewords.specs.Opening.{Opening, opens, secretInto, wrongInto}
+use Rattle.codewords.specs.WellFormed.{IsPoly}
+use Rattle.bundle.specs.Bundle.{paramsOf, filesOf, holderOf}
 use Rattle.bundle.specs.Contents.{wordsOf}
-use Rattle.archive.specs.Archive.{paramsOf, holderOf, valuesFrom, every}
+use Rattle.totals.specs.Total.{sumTo}
+use Rattle.totals.specs.Values.{valuesFrom, every}
+use Rattle.archive.specs.Archive.{sharesAt, sharesOver, openPlace, openRun}
 
--- whether file f holds its holder's share of each of the n jobs from place a on, where the job at place a + i is dealt by the polynomial q i
-unfoldable pub holdsDealt : List ℕ → (ℕ → Polynomial) → ℕ → ℕ → ℕ → Bool
-unfolding every same
-holdsDealt bs q a n f =
-    every (λ i. same (wordsOf bs f (a + i)) (value (paramsOf bs .k) (paramsOf bs .d) (q i) (point (paramsOf bs .d) (holderOf bs f)))) n
+-- ---- the polynomials q 0, .., q (n - 1) that deal the jobs of a run of n places
 
--- at how many of the n places from i on a test fails
-unfoldable pub failing : (ℕ → Bool) → ℕ → ℕ → ℕ
-failing t i zero = 0
-failing t i (suc n) = when (not (t i)) 1 + failing t (suc i) n
-
--- how many files hold something else somewhere in the run
-abbrev pub changedFiles : List ℕ → (ℕ → Polynomial) → ℕ → ℕ → ℕ
-changedFiles bs q a n = failing (holdsDealt bs q a n) 0 (filesOf bs)
+-- each is of degree at most t
+abbrev pub Polys : List ℕ → (ℕ → Polynomial) → ℕ → Type 0
+Polys bs q n = (i : ℕ) → i < n → IsPoly (paramsOf bs .k) (paramsOf bs .d) (paramsOf bs .t) (q i)
 
 -- the free terms: "A dealing polynomial is one whose free term is the job."
 abbrev pub freeTerms : (ℕ → Polynomial) → ℕ → Element
 freeTerms q i = getD (q i) 0 []
 
--- word j of each of n elements
-abbrev pub wordsNo : ℕ → (ℕ → Element) → ℕ → List ℕ
-wordsNo j s n = valuesFrom (λ i. getD (s i) j 0) 0 n
+-- the sum of n polynomials of degree at most t, that of none being zero
+unfoldable pub sumPolys : ℕ → ℕ → ℕ → (ℕ → Polynomial) → ℕ → Polynomial
+unfolding sums
+sumPolys k d t q zero = replicate (suc t) (zeroE d)
+sumPolys k d t q (suc n) = sums k (sumPolys k d t q n) (q n)
+
+-- the sum of the dealing polynomials, and the sum of the jobs
+abbrev pub sumPoly : List ℕ → (ℕ → Polynomial) → ℕ → Polynomial
+sumPoly bs q n = sumPolys (paramsOf bs .k) (paramsOf bs .d) (paramsOf bs .t) q n
+
+abbrev pub sumOfJobs : List ℕ → (ℕ → Polynomial) → ℕ → Element
+sumOfJobs bs q n = sumTo (paramsOf bs .k) (paramsOf bs .d) (freeTerms q) n
+
+-- ---- files
+
+-- whether file f holds its holder's share of each of the n jobs from place a on, where the job at place a + i is dealt by q i
+unfoldable pub holdsDealt : List ℕ → (ℕ → Polynomial) → ℕ → ℕ → ℕ → Bool
+unfolding every same value point
+holdsDealt bs q a n f =
+    every (λ i. same (wordsOf bs f (a + i)) (value (paramsOf bs .k) (paramsOf bs .d) (q i) (point (paramsOf bs .d) (holderOf bs f)))) n
+
+-- how many files hold something else somewhere in the run
+abbrev pub changedFiles : List ℕ → (ℕ → Polynomial) → ℕ → ℕ → ℕ
+changedFiles bs q a n = count (λ f. not (holdsDealt bs q a n f)) (valuesFrom (λ f. f) 0 (filesOf bs))
+
+-- the holders whose share of a run differs from a polynomial
+abbrev pub named : List ℕ → ℕ → ℕ → Polynomial → ℕ
+named bs a n p = errorSet (paramsOf bs .k) (paramsOf bs .d) p (sharesOver bs a n)
+
+-- ---- what is opened
+
+-- the opening o of a bundle's shares ss gives the polynomial q, so that the outputs then hold the words s and the set x
+pub record BundleOpensTo (bs : List ℕ) (ss : List Share) (o : Opening) (q : Polynomial) (s : Element) (x : ℕ) : Type 0 where
+  pub opened : o ≡ opens q
+  pub secret : (old : List ℕ) → secretInto old o ≡ s
+  pub wrong : (old : List ℕ) → wrongInto (paramsOf bs .k) (paramsOf bs .d) ss old o ≡ x ∷ []
+
+-- the job at place p, and the run of the places a to b - 1, with outputs of n and of w words
+abbrev pub PlaceOpensTo : List ℕ → ℕ → ℕ → ℕ → Polynomial → Element → ℕ → Type 0
+PlaceOpensTo bs p n w = BundleOpensTo bs (sharesAt bs p) (openPlace bs p n w)
+
+abbrev pub RunOpensTo : List ℕ → ℕ → ℕ → ℕ → ℕ → Polynomial → Element → ℕ → Type 0
+RunOpensTo bs a b n w = BundleOpensTo bs (sharesOver bs a (b - a)) (openRun bs a b n w)

@@ -1,2 +1,4 @@
 pub mod Archive
+pub mod Clear
 pub mod Dealt
+pub mod Loaded

@@ -5,9 +5,9 @@ use mathlib.Core.Path.{_≡_}
 use Prim.Native.Nat.{ℕ, _-_, _≤_}
 use lib.ListN.{length, replicate, length-replicate}
 use denote.Ref.{now}
-use Rattle.archive.specs.Archive.{holderOf}
-use Rattle.archive.proofs.Values.{filled, values-start, values-next, values-done}
-use Rattle.archive.proofs.Accepted.{files-high}
+use Rattle.bundle.specs.Bundle.{holderOf}
+use Rattle.bundle.proofs.Bundles.{bundle-ok, files-most}
+use Rattle.totals.proofs.Values.{filled, values-start, values-next, values-done}
 use Rattle.archive.proofs.load_holders.Statement.{statement}
 use Rattle.archive.proofs.load_holders.Tie as tie
 
@@ -18,7 +18,7 @@ abbrev μ-loop : tie.MeasureT-loop
 μ-loop bytes h files holders₀ f₀ holders f = files - f
 
 few : (s : tie.Start Inv-loop μ-loop) → s .args .files ≤ 63
-few s = omega (arith, s .pre .2, files-high (now (s .args .bytes)) (s .pre .0))
+few s = omega (arith, s .pre .2, files-most (now (s .args .bytes)) (bundle-ok (now (s .args .bytes)) (s .pre .0)))
 
 room : (s : tie.Start Inv-loop μ-loop) → s .args .files ≤ length {A = ℕ} (replicate 63 0)
 room s = rw (length-replicate {A = ℕ} 63 0) (few s)

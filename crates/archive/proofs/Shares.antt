@@ -1,0 +1,91 @@
+-- The shares present in an accepted bundle: one for each file, under holders that rise from 1 to n; and words in width where none is wide.
+-- Assumes nothing.
+use mathlib.Core.Path.{_≡_}
+use mathlib.Core.Bool.{true}
+use mathlib.Core.List.{List}
+use Prim.Native.Nat.{ℕ, zero, suc, _+_, _≤_, _<_}
+use native.Mathlib.Omega.{arith}
+use lib.ListN.{length}
+use Rattle.words.specs.Word.{allInWidth}
+use Rattle.algebra.specs.Shares.{All}
+use Rattle.algebra.proofs.Shares.{all-map}
+use Rattle.galois.specs.Element.{Element}
+use Rattle.codewords.specs.Codeword.{Share}
+use Rattle.codewords.specs.WellFormed.{IsElement, InWidth, Rising, Holders}
+use Rattle.codewords.proofs.Without.{rising-different}
+use Rattle.decoder.specs.Decoded.{Ordered}
+use Rattle.records.specs.Layout.{orderSize}
+use Rattle.records.specs.Record.{headingOf}
+use Rattle.bundle.specs.Bundle.{bundleFault, paramsOf, filesOf, fileAt, holderOf}
+use Rattle.bundle.specs.Contents.{wordsOf}
+use Rattle.bundle.proofs.Bundles.{bundle-ok, bundle-ranges, file-at, same-at, holders-rise}
+use Rattle.archive.specs.Archive.{shareBy, sharesBy}
+use Rattle.archive.specs.Archive.{placeInWidth, filesInWidth}
+use Rattle.totals.specs.Total.{runTotal, runInWidth}
+use Rattle.totals.specs.Values.{valuesFrom}
+use Rattle.totals.proofs.Runs.{total-length}
+use Rattle.totals.proofs.Sums.{sum-width}
+use Rattle.totals.proofs.Values.{values-count, every-each, every-all}
+use Rattle.totals.proofs.Words.{words-length}
+
+-- what holds of each value holds of each in the list
+pub values-all : {A : Type 0} (P : A → Type 0) (f : ℕ → A) (i n : ℕ) → ((j : ℕ) → i ≤ j → j < i + n → P (f j)) → All P (valuesFrom f i n)
+unfolding valuesFrom
+values-all P f i zero h = tt
+values-all P f i (suc n) h = (h i (omega arith) (omega arith), values-all P f (suc i) n (λ j l u. h j (omega arith) (omega arith)))
+
+pub shares-count : (bs : List ℕ) (w : ℕ → Element) → length (sharesBy bs w) ≡ filesOf bs
+shares-count bs w = values-count (shareBy bs w) 0 (filesOf bs)
+
+module _ (bs : List ℕ) (z : bundleFault bs ≡ 0) where
+  -- each holder is 1 to n
+  pub holder-range : (f : ℕ) → f < filesOf bs → (1 ≤ holderOf bs f) × (holderOf bs f ≤ paramsOf bs .n)
+  holder-range f l =
+      let h = file-at bs orderSize (bundle-ok bs z .files) f l .heading in
+      let u : headingOf bs (fileAt bs f) .holder ≤ headingOf bs (fileAt bs f) .params .n = h .within in
+      (omega (arith, h .rises), rw (same-at bs orderSize (bundle-ok bs z .files) f l .params-is) u)
+
+  module _ (w : ℕ → Element) where
+    rising : (i n : ℕ) → i + n ≤ filesOf bs → Rising (valuesFrom (shareBy bs w) i n)
+    unfolding valuesFrom
+    rising i zero h = tt
+    rising i (suc n) h = (
+      values-all (λ (r : Share). holderOf bs i < r .holder) (shareBy bs w) (suc i) n
+          (λ j l u. holders-rise bs orderSize (bundle-ok bs z .files) i j l (omega arith)),
+      rising (suc i) n (omega arith),
+    )
+
+    pub shares-ordered : Ordered (paramsOf bs .n) (sharesBy bs w)
+    shares-ordered = (
+      values-all (λ (s : Share). (1 ≤ s .holder) × (s .holder ≤ paramsOf bs .n)) (shareBy bs w) 0 (filesOf bs)
+          (λ j l u. holder-range j (omega arith)),
+      rising 0 (filesOf bs) (omega arith),
+    )
+
+    pub shares-holders : Holders (paramsOf bs .d) (sharesBy bs w)
+    shares-holders =
+        let b = bundle-ranges bs (bundle-ok bs z) .book in (
+          all-map (λ (s : Share) (x : (1 ≤ s .holder) × (s .holder ≤ paramsOf bs .n)). (x .0, omega (arith, x .1, b .n-high))) (sharesBy bs w)
+              (shares-ordered .0),
+          rising-different (sharesBy bs w) (shares-ordered .1),
+        )
+
+-- words in width
+pub shares-width : (bs : List ℕ) (w : ℕ → Element) → ((f : ℕ) → f < filesOf bs → IsElement (paramsOf bs .k) (paramsOf bs .d) (w f)) →
+    InWidth (paramsOf bs .k) (paramsOf bs .d) (sharesBy bs w)
+shares-width bs w h =
+    values-all (λ (s : Share). IsElement (paramsOf bs .k) (paramsOf bs .d) (s .words)) (shareBy bs w) 0 (filesOf bs) (λ j l u. h j (omega arith))
+
+-- a job whose words are in width, in each file
+pub place-width : (bs : List ℕ) (p f : ℕ) → placeInWidth bs p ≡ true → f < filesOf bs → IsElement (paramsOf bs .k) (paramsOf bs .d) (wordsOf bs f p)
+place-width bs p f e l = (words-length bs f p, every-each (λ g. allInWidth (paramsOf bs .k) (wordsOf bs g p)) (filesOf bs) f e l)
+
+pub of-width : (bs : List ℕ) (a n : ℕ) → ((f i : ℕ) → f < filesOf bs → i < n → allInWidth (paramsOf bs .k) (wordsOf bs f (a + i)) ≡ true) →
+    filesInWidth bs a n ≡ true
+of-width bs a n h =
+    every-all (λ g. runInWidth bs g a n) (filesOf bs)
+    (λ f l. every-all (λ j. allInWidth (paramsOf bs .k) (wordsOf bs f (a + j))) n (λ i u. h f i l u))
+
+-- a total is an element, whatever the words are
+pub total-element : (bs : List ℕ) (f a n : ℕ) → IsElement (paramsOf bs .k) (paramsOf bs .d) (runTotal bs f a n)
+total-element bs f a n = (total-length bs f a n, sum-width (paramsOf bs .k) (paramsOf bs .d) (λ i. wordsOf bs f (a + i)) n)

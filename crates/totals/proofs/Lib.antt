@@ -1,0 +1,5 @@
+pub mod Values
+pub mod Sums
+pub mod Words
+pub mod Runs
+pub mod Totals

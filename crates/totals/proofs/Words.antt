@@ -1,0 +1,77 @@
+-- The words of a job: d of them, as an element in an array of six (`padded`); words are in width exactly where all of them together, bit by bit,
+-- are (`six-width`). Assumes nothing.
+use mathlib.Core.Path.{_≡_, refl, sym, ap, ap₂, _∙_}
+use mathlib.Core.Bool.{Bool, true, false, _&&_}
+use mathlib.Core.List.{List, [], _∷_, _++_}
+use Prim.Native.Nat.{ℕ, _+_, _-_, _≤_}
+use native.Mathlib.Nat.{le-of-eq}
+use lib.Bits.{bitOr}
+use lib.ListN.{length, getD, drop, replicate}
+use lib.Pow.{pow-pos}
+use lib.Seq.{take-all}
+use Rattle.words.specs.Word.{inWidth, allInWidth}
+use Rattle.words.proofs.Width.{lt-in-width, or-width}
+use Rattle.galois.specs.Element.{Element, held}
+use Rattle.galois.proofs.Held.{zeros-after}
+use Rattle.galois.proofs.Zip.{six-words}
+use Rattle.records.specs.Layout.{wordSize, wordsAt}
+use Rattle.bundle.specs.Bundle.{bundleHeading, paramsOf, jobAt}
+use Rattle.bundle.specs.Contents.{wordsOf}
+use Rattle.bundle.proofs.Contents.{words-count}
+use Rattle.totals.specs.Values.{every}
+use Rattle.totals.proofs.Values.{every-none, every-more}
+use Rattle.totals.proofs.Sums.{zeros-width}
+
+-- every job has d words
+pub words-length : (bs : List ℕ) (f p : ℕ) → length (wordsOf bs f p) ≡ paramsOf bs .d
+unfolding wordsOf
+words-length bs f p = words-count (wordSize (bundleHeading bs)) bs (paramsOf bs .d) (wordsAt (jobAt bs f p))
+
+-- d words and zeros after them are an element in an array of six
+pub padded : (d : ℕ) (e : Element) → length e ≡ d → e ++ drop d (replicate 6 0) ≡ held d e
+padded d e h = ap (λ (l : Element). l ++ drop d (replicate 6 0)) (sym (take-all d e (le-of-eq h)))
+
+width-append : (k : ℕ) (a b : Element) → allInWidth k (a ++ b) ≡ (allInWidth k a && allInWidth k b)
+unfolding allInWidth
+width-append k [] b = refl
+width-append k (x ∷ a) b = ap (λ (r : Bool). inWidth k x && r) (width-append k a b) ∙ assoc (inWidth k x) (allInWidth k a) (allInWidth k b)
+  where
+    assoc : (x y z : Bool) → (x && (y && z)) ≡ ((x && y) && z)
+    assoc true y z = refl
+    assoc false y z = refl
+
+-- the zeros are in width
+pub padded-width : (k d : ℕ) (e : Element) → d ≤ 6 → allInWidth k (e ++ drop d (replicate 6 0)) ≡ allInWidth k e
+padded-width k d e h =
+    width-append k e (drop d (replicate 6 0))
+    ∙ rw (zeros-after d h, zeros-width k (6 - d)) (last (allInWidth k e))
+  where
+    last : (b : Bool) → (b && true) ≡ b
+    last true = refl
+    last false = refl
+
+-- ---- words together
+
+-- word upon word, where a test says of each whether it is in width
+pub none-seen : (k : ℕ) (t : ℕ → Bool) → inWidth k 0 ≡ every t 0
+none-seen k t = lt-in-width k 0 (pow-pos k) ∙ sym (every-none t)
+
+pub more-seen : (k x y : ℕ) (t : ℕ → Bool) (n : ℕ) → inWidth k x ≡ every t n → inWidth k y ≡ t n → inWidth k (bitOr x y) ≡ every t (n + 1)
+more-seen k x y t n p q = or-width k x y ∙ ap₂ _&&_ p q ∙ sym (every-more t n)
+
+-- the six words of an array together
+abbrev pub together : List ℕ → ℕ
+together w = bitOr (getD w 0 0) (bitOr (getD w 1 0) (bitOr (getD w 2 0) (bitOr (getD w 3 0) (bitOr (getD w 4 0) (getD w 5 0)))))
+
+pub six-width : (k : ℕ) (w : List ℕ) → length w ≡ 6 → inWidth k (together w) ≡ allInWidth k w
+unfolding allInWidth
+six-width k w h =
+    rw (or-width, or-width, or-width, or-width, or-width)
+    (ap (λ (b : Bool). i 0 && (i 1 && (i 2 && (i 3 && (i 4 && b))))) (last (i 5)) ∙ ap (allInWidth k) (sym (six-words w h)))
+  where
+    i : ℕ → Bool
+    i j = inWidth k (getD w j 0)
+
+    last : (b : Bool) → b ≡ (b && true)
+    last true = refl
+    last false = refl
