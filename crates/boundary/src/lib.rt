@@ -2,25 +2,25 @@
 // does not decline, and asks nothing of its caller but slices that are there: a call that declines leaves every output as it was.
 ghost use mathlib.Core.Path.{_≡_};
 ghost use mathlib.Core.List.{[], _∷_, _++_};
-ghost use Prim.Native.Nat.{_^_, _≤_, _<_};
+ghost use Prim.Native.Nat.{_-_};
 ghost use lib.ListN.{length};
-ghost use Rattle.words.specs.Refusal.{first, kept};
-ghost use Rattle.words.specs.Signed.{signedOf};
+ghost use Rattle.words.specs.Faults.{signedFault};
+ghost use Rattle.words.specs.Refusal.{kept};
+ghost use Rattle.words.specs.Signed.{signedOf, twosComplement};
 ghost use Rattle.galois.specs.Element.{sum, product, lower, inverse};
-ghost use Rattle.ring.specs.Calls.{operandFault, operandsFault};
+ghost use Rattle.arithmetic.specs.Calls.{operandFault, operandsFault};
+ghost use Rattle.codewords.specs.Opening.{faultOf, secretInto, wrongInto};
 ghost use Rattle.sharing.specs.Dealing.{dealFault, dealt};
-ghost use Rattle.sharing.specs.Opening.{faultOf, wordsOf};
-ghost use Rattle.bundle.specs.Bundle.{bundleFault, filesOf};
-ghost use Rattle.fetch.specs.Fetch.{fileOf, bodyFault};
+ghost use Rattle.sharing.specs.Opening.{lent, opening};
+ghost use Rattle.bundle.specs.Bundle.{bundleFault, paramsOf};
+ghost use Rattle.fetch.specs.Fetch.{fileOf, bodyFault, partFault, partOf};
 ghost use Rattle.writer.specs.Bytes.{fileBytes, orderBytes};
 ghost use Rattle.writer.specs.Write.{fileFor, fileWriteFault, orderFault, bundleWriteFault};
-ghost use Rattle.archive.specs.Archive.{totalFault, totalWords};
-ghost use Rattle.listing.specs.Listing.{lineOf};
+ghost use Rattle.totals.specs.Total.{totalFault, totalWords};
+ghost use Rattle.archive.specs.Archive.{sharesAt, sharesOver, openPlace, openRun};
+ghost use Rattle.listing.specs.Listing.{lineOf, lineFault};
 ghost use Rattle.text.specs.Text.{written};
-ghost use Rattle.boundary.specs.Boundary.{params, setOf, openingInto, placeInto, runInto, lineIntoFault};
-ghost use Rattle.boundary.specs.Boundary.{filePartFault, partFault, partOf, twosComplement, signedFault};
-use bundle::Checked;
-use fetch::Found;
+ghost use Rattle.boundary.specs.Boundary.{params};
 use words::Params;
 
 // ---- elements and shares
@@ -40,7 +40,7 @@ pub extern "C" fn yikes_add(
         × (now (out .exit) ≡ kept (operandsFault (params k d n t) (now (a .entry)) (now (b .entry)) (length (now (out .entry))))
         (now (out .entry)) (sum k (now (a .entry)) (now (b .entry)))) ⌝ }
 {
-    ring::add(Params { k, d, n, t }, a, b, out)
+    arithmetic::add(Params { k, d, n, t }, a, b, out)
 }
 
 // The product of two elements: a share times an element is a share of the job times it.
@@ -58,7 +58,7 @@ pub extern "C" fn yikes_scale(
         × (now (out .exit) ≡ kept (operandsFault (params k d n t) (now (a .entry)) (now (b .entry)) (length (now (out .entry))))
         (now (out .entry)) (product k (lower d) (now (a .entry)) (now (b .entry)))) ⌝ }
 {
-    ring::multiply(Params { k, d, n, t }, a, b, out)
+    arithmetic::multiply(Params { k, d, n, t }, a, b, out)
 }
 
 // The inverse of an element, or zero where it has none.
@@ -75,7 +75,7 @@ pub extern "C" fn yikes_invert(
         × (now (out .exit) ≡ kept (operandFault (params k d n t) (now (a .entry)) (length (now (out .entry))))
         (now (out .entry)) (inverse k d (now (a .entry)))) ⌝ }
 {
-    ring::invert(Params { k, d, n, t }, a, out)
+    arithmetic::invert(Params { k, d, n, t }, a, out)
 }
 
 // A job dealt to n holders, with t coefficients that the caller draws at random.
@@ -109,38 +109,15 @@ pub extern "C" fn yikes_open(
     out: &mut [u64],
     wrong: &mut [u64],
 ) -> u8
-    ensures { λ r. ⌜ (r ≡ faultOf (openingInto (params k d n t) (now (holders .entry)) (now (shares .entry)) e (length (now (out .entry)))
-        (length (now (wrong .entry)))))
-        × (now (out .exit) ≡ wordsOf (now (out .entry)) (openingInto (params k d n t) (now (holders .entry)) (now (shares .entry)) e
-        (length (now (out .entry))) (length (now (wrong .entry)))))
-        × (now (wrong .exit) ≡ setOf (now (wrong .entry)) (openingInto (params k d n t) (now (holders .entry)) (now (shares .entry)) e
-        (length (now (out .entry))) (length (now (wrong .entry))))) ⌝ }
+    ensures fault { λ r. ⌜ r ≡ faultOf (opening (params k d n t) (now (holders .entry)) (now (shares .entry)) e (length (now (out .entry)))
+        (length (now (wrong .entry)))) ⌝ }
+    ensures out { λ _. ⌜ now (out .exit) ≡ secretInto (now (out .entry)) (opening (params k d n t) (now (holders .entry))
+        (now (shares .entry)) e (length (now (out .entry))) (length (now (wrong .entry)))) ⌝ }
+    ensures wrong { λ _. ⌜ now (wrong .exit) ≡ wrongInto k d (lent d (now (holders .entry)) (now (shares .entry))) (now (wrong .entry))
+        (opening (params k d n t) (now (holders .entry)) (now (shares .entry)) e (length (now (out .entry)))
+        (length (now (wrong .entry)))) ⌝ }
 {
-    let p = Params { k, d, n, t };
-    if !words::params_ok(p) {
-        return words::PARAMETERS;
-    }
-    if wrong.len() != 1 {
-        return words::LENGTH;
-    }
-    let opened = sharing::open_shares(p, holders, shares, e, out);
-    if opened.fault != 0 {
-        return opened.fault;
-    }
-    wrong[0] = opened.wrong;
-    0
-}
-
-// The signed reading of a word in width, in two's complement.
-fn twos_complement(k: u64, w: u64) -> u64
-    requires { ⌜ ((1 ≤ k) × (k ≤ 64)) × (w < 2 ^ k) ⌝ }
-    ensures { λ r. ⌜ r ≡ twosComplement (signedOf k w) ⌝ }
-{
-    let s = words::read_signed(k, w);
-    if s.negative {
-        return 0xffff_ffff_ffff_ffff - (s.magnitude - 1);
-    }
-    s.magnitude
+    sharing::open_shares(Params { k, d, n, t }, holders, shares, e, out, wrong)
 }
 
 // The signed reading of a word, in two's complement, into an output of one word.
@@ -149,20 +126,7 @@ pub extern "C" fn yikes_signed(k: u64, w: u64, out: &mut [u64]) -> u8
     ensures { λ r. ⌜ (r ≡ signedFault k w (length (now (out .entry))))
         × (now (out .exit) ≡ kept (signedFault k w (length (now (out .entry)))) (now (out .entry)) (twosComplement (signedOf k w) ∷ [])) ⌝ }
 {
-    if k < 1 {
-        return words::PARAMETERS;
-    }
-    if 64 < k {
-        return words::PARAMETERS;
-    }
-    if out.len() != 1 {
-        return words::LENGTH;
-    }
-    if !words::in_width(k, w) {
-        return words::WIDE_WORD;
-    }
-    out[0] = twos_complement(k, w);
-    0
+    words::signed_into(k, w, out)
 }
 
 // ---- files
@@ -213,19 +177,7 @@ pub extern "C" fn yikes_write_bundle(e: u8, files: &[u8], out: &mut [u8]) -> u8
 pub extern "C" fn yikes_accept(bytes: &[u8]) -> u8
     ensures { λ r. ⌜ r ≡ bundleFault (now (bytes .entry)) ⌝ }
 {
-    let checked = bundle::check_bundle(bytes);
-    match checked {
-        Checked::Files(_) => 0,
-        Checked::Refused(fault) => fault,
-    }
-}
-
-// The number of a call whose second output has a wrong length: the bundle's faults come first.
-fn wrong_length(bytes: &[u8]) -> u8
-    ensures { λ r. ⌜ r ≡ first (bundleFault (now (bytes .entry))) 2 ⌝ }
-{
-    let fault = yikes_accept(bytes);
-    if fault != 0 { fault } else { words::LENGTH }
+    bundle::bundle_fault(bytes)
 }
 
 // Opens the job at a place, with the set of the wrong holders as a second output of one word.
@@ -236,21 +188,14 @@ pub extern "C" fn yikes_open_place(
     out: &mut [u64],
     wrong: &mut [u64],
 ) -> u8
-    ensures { λ r. ⌜ (r ≡ faultOf (placeInto (now (bytes .entry)) place (length (now (out .entry))) (length (now (wrong .entry)))))
-        × (now (out .exit)
-        ≡ wordsOf (now (out .entry)) (placeInto (now (bytes .entry)) place (length (now (out .entry))) (length (now (wrong .entry)))))
-        × (now (wrong .exit)
-        ≡ setOf (now (wrong .entry)) (placeInto (now (bytes .entry)) place (length (now (out .entry))) (length (now (wrong .entry))))) ⌝ }
+    ensures fault { λ r. ⌜ r ≡ faultOf (openPlace (now (bytes .entry)) place (length (now (out .entry))) (length (now (wrong .entry)))) ⌝ }
+    ensures out { λ _. ⌜ now (out .exit) ≡ secretInto (now (out .entry))
+        (openPlace (now (bytes .entry)) place (length (now (out .entry))) (length (now (wrong .entry)))) ⌝ }
+    ensures wrong { λ _. ⌜ now (wrong .exit) ≡ wrongInto (paramsOf (now (bytes .entry)) .k) (paramsOf (now (bytes .entry)) .d)
+        (sharesAt (now (bytes .entry)) place) (now (wrong .entry))
+        (openPlace (now (bytes .entry)) place (length (now (out .entry))) (length (now (wrong .entry)))) ⌝ }
 {
-    if wrong.len() != 1 {
-        return wrong_length(bytes);
-    }
-    let job = archive::open_place(bytes, place, out);
-    if job.fault != 0 {
-        return job.fault;
-    }
-    wrong[0] = job.wrong;
-    0
+    archive::open_place(bytes, place, out, wrong)
 }
 
 // Opens the sum of the jobs at the places a to b - 1, in the same way.
@@ -262,21 +207,14 @@ pub extern "C" fn yikes_open_run(
     out: &mut [u64],
     wrong: &mut [u64],
 ) -> u8
-    ensures { λ r. ⌜ (r ≡ faultOf (runInto (now (bytes .entry)) a b (length (now (out .entry))) (length (now (wrong .entry)))))
-        × (now (out .exit)
-        ≡ wordsOf (now (out .entry)) (runInto (now (bytes .entry)) a b (length (now (out .entry))) (length (now (wrong .entry)))))
-        × (now (wrong .exit)
-        ≡ setOf (now (wrong .entry)) (runInto (now (bytes .entry)) a b (length (now (out .entry))) (length (now (wrong .entry))))) ⌝ }
+    ensures fault { λ r. ⌜ r ≡ faultOf (openRun (now (bytes .entry)) a b (length (now (out .entry))) (length (now (wrong .entry)))) ⌝ }
+    ensures out { λ _. ⌜ now (out .exit) ≡ secretInto (now (out .entry))
+        (openRun (now (bytes .entry)) a b (length (now (out .entry))) (length (now (wrong .entry)))) ⌝ }
+    ensures wrong { λ _. ⌜ now (wrong .exit) ≡ wrongInto (paramsOf (now (bytes .entry)) .k) (paramsOf (now (bytes .entry)) .d)
+        (sharesOver (now (bytes .entry)) a (b - a)) (now (wrong .entry))
+        (openRun (now (bytes .entry)) a b (length (now (out .entry))) (length (now (wrong .entry)))) ⌝ }
 {
-    if wrong.len() != 1 {
-        return wrong_length(bytes);
-    }
-    let run = archive::open_run(bytes, a, b, out);
-    if run.fault != 0 {
-        return run.fault;
-    }
-    wrong[0] = run.wrong;
-    0
+    archive::open_run(bytes, a, b, out, wrong)
 }
 
 // The total of a holder's file over the places a to b - 1.
@@ -291,28 +229,7 @@ pub extern "C" fn yikes_total(
     ensures { λ r. ⌜ (r ≡ totalFault (now (bytes .entry)) holder a b (length (now (out .entry))))
         × (now (out .exit) ≡ totalWords (now (bytes .entry)) holder a b (now (out .entry))) ⌝ }
 {
-    archive::total(bytes, holder, a, b, out)
-}
-
-// A job's body of file f of an accepted bundle, as its offset and its length.
-fn put_part(bytes: &[u8], f: usize, place: usize, part: &mut [u64]) -> u8
-    requires { ⌜ (bundleFault (now bytes) ≡ 0) × (f < filesOf (now bytes)) ⌝ }
-    ensures { λ r. ⌜ (r ≡ filePartFault (now (bytes .entry)) place (length (now (part .entry))))
-        × (now (part .exit) ≡ kept (filePartFault (now (bytes .entry)) place (length (now (part .entry)))) (now (part .entry))
-        (partOf (now (bytes .entry)) f place)) ⌝ }
-{
-    if part.len() != 2 {
-        return words::LENGTH;
-    }
-    let h = records::heading_at(bytes, records::ORDER_SIZE);
-    if h.jobs <= place {
-        return words::OUT_OF_RANGE;
-    }
-    let start = fetch::job_at(h, f, place) + records::PREFIX_SIZE;
-    let size = records::job_length(h) - records::KIND_SIZE;
-    part[0] = start as u64;
-    part[1] = size as u64;
-    0
+    totals::total(bytes, holder, a, b, out)
 }
 
 // A job's body by holder and place, as its offset in the bundle and its length: an output of two words.
@@ -327,17 +244,7 @@ pub extern "C" fn yikes_fetch_body(
         × (now (part .exit) ≡ kept (partFault (now (bytes .entry)) holder place (length (now (part .entry)))) (now (part .entry))
         (partOf (now (bytes .entry)) (fileOf (now (bytes .entry)) holder) place)) ⌝ }
 {
-    let checked = bundle::check_bundle(bytes);
-    match checked {
-        Checked::Refused(c) => c,
-        Checked::Files(files) => {
-            let found = fetch::find_file(bytes, files, holder);
-            match found {
-                Found::Nothing => words::HOLDER,
-                Found::At(f) => put_part(bytes, f, place, part),
-            }
-        }
-    }
+    fetch::fetch_part(bytes, holder, place, part)
 }
 
 // The number of the same fetch alone, 0 where it succeeds.
@@ -356,19 +263,13 @@ pub extern "C" fn yikes_list_line(
     line: &mut [u8],
     size: &mut [u64],
 ) -> u8
-    ensures { λ r. ⌜ (r ≡ lineIntoFault (now (bytes .entry)) place (length (now (line .entry))) (length (now (size .entry))))
-        × (now (line .exit) ≡ kept (lineIntoFault (now (bytes .entry)) place (length (now (line .entry))) (length (now (size .entry))))
-        (now (line .entry)) (written 0 (lineOf (now (bytes .entry)) place) (now (line .entry))))
-        × (now (size .exit) ≡ kept (lineIntoFault (now (bytes .entry)) place (length (now (line .entry))) (length (now (size .entry))))
-        (now (size .entry)) (length (lineOf (now (bytes .entry)) place) ∷ [])) ⌝ }
+    ensures fault { λ r. ⌜ r ≡ lineFault (now (bytes .entry)) place (length (now (line .entry))) (length (now (size .entry))) ⌝ }
+    ensures line { λ _. ⌜ now (line .exit)
+        ≡ kept (lineFault (now (bytes .entry)) place (length (now (line .entry))) (length (now (size .entry)))) (now (line .entry))
+        (written 0 (lineOf (now (bytes .entry)) place) (now (line .entry))) ⌝ }
+    ensures size { λ _. ⌜ now (size .exit)
+        ≡ kept (lineFault (now (bytes .entry)) place (length (now (line .entry))) (length (now (size .entry)))) (now (size .entry))
+        (length (lineOf (now (bytes .entry)) place) ∷ []) ⌝ }
 {
-    if size.len() != 1 {
-        return wrong_length(bytes);
-    }
-    let listed = listing::list_line(bytes, place, line);
-    if listed.fault != 0 {
-        return listed.fault;
-    }
-    size[0] = listed.length as u64;
-    0
+    listing::list_line(bytes, place, line, size)
 }

@@ -2,35 +2,33 @@
 use Prim.Native.Nat.{ℕ, zero, suc}
 use mathlib.Core.List.{List, [], _++_, map}
 use lib.Dec.{leb}
-use lib.ListN.{length}
-use Rattle.words.specs.Refusal.{first, unless, kept}
+use lib.ListN.{length, getD}
+use Rattle.words.specs.Faults.{lengthFault}
+use Rattle.words.specs.Refusal.{first, unless, LENGTH}
 use Rattle.words.specs.Signed.{signedOf}
-use Rattle.sharing.specs.Opening.{Opening, declines, gives}
-use Rattle.bundle.specs.Bundle.{numOf, jobAt, bundleHeading, bundleFault}
-use Rattle.archive.specs.Archive.{paramsOf, isPlace, placeOpening}
-use Rattle.text.specs.Text.{written, lineRoom, headLine, refusedLine, openLine, declinedLine}
+use Rattle.words.specs.declared.Params.{Params}
+use Rattle.codewords.specs.Codeword.{Share, errorSet}
+use Rattle.codewords.specs.Opening.{Opening, declines, opens}
+use Rattle.bundle.specs.Bundle.{numOf, jobAt, paramsOf, bundleHeading, bundleFault}
+use Rattle.fetch.specs.Fetch.{placeFault}
+use Rattle.archive.specs.Archive.{sharesAt, placeOpening}
+use Rattle.text.specs.Text.{lineRoom, headLine, refusedLine, openLine, declinedLine}
 
--- "Each job has a line: job number; `open` or the number 3, 5 or 6; wrong holders [..]; the signed words": the line of a job by what it opens to
-abbrev pub lineBy : ℕ → ℕ → Opening → List ℕ
-lineBy k number (declines c) = declinedLine number c
-lineBy k number (gives wrong words) = openLine number wrong (map (signedOf k) words)
+-- "Each job has a line: job number; `open` or the number 3, 5 or 6; wrong holders [..]; the signed words": the line of a job by its shares and
+-- what they open to
+abbrev pub lineBy : Params → List Share → ℕ → Opening → List ℕ
+lineBy p ss number (declines c) = declinedLine number c
+lineBy p ss number (opens q) = openLine number (errorSet (p .k) (p .d) q ss) (map (signedOf (p .k)) (getD q 0 []))
 
 -- the line of the job at a place of a bundle that has no fault
 unfoldable pub lineOf : List ℕ → ℕ → List ℕ
-lineOf bs p = lineBy (paramsOf bs .k) (numOf bs (jobAt bs 0 p)) (placeOpening bs p)
+lineOf bs p = lineBy (paramsOf bs) (sharesAt bs p) (numOf bs (jobAt bs 0 p)) (placeOpening bs p)
 
--- one line into a buffer of n bytes, which declines as the calls on a bundle do: 2 where a line may not fit, and then 9
-unfoldable pub lineFault : List ℕ → ℕ → ℕ → ℕ
-lineFault bs p n = first (bundleFault bs) (first (unless (leb lineRoom n) 2) (unless (isPlace bs p) 9))
-
--- how long the line is, 0 where the call declines, and what the buffer holds after it
-unfoldable pub lineLength : List ℕ → ℕ → ℕ → ℕ
-unfolding lineFault lineOf
-lineLength bs p n = kept (lineFault bs p n) 0 (length (lineOf bs p))
-
-unfoldable pub lineBuffer : List ℕ → ℕ → List ℕ → List ℕ
-unfolding lineFault lineOf
-lineBuffer bs p out = kept (lineFault bs p (length out)) out (written 0 (lineOf bs p) out)
+-- one line into a buffer of n bytes, and its length into an output of w words, which declines as the calls on a bundle do: 2 where there is not
+-- one word or a line may not fit, and then 9
+unfoldable pub lineFault : List ℕ → ℕ → ℕ → ℕ → ℕ
+lineFault bs p n w =
+    first (bundleFault bs) (first (lengthFault 1 w) (first (unless (leb lineRoom n) LENGTH) (placeFault (bundleHeading bs) p)))
 
 -- the lines of the n places from p on
 unfoldable pub linesFrom : List ℕ → ℕ → ℕ → List ℕ
@@ -43,7 +41,7 @@ abbrev pub mostInput : ℕ
 mostInput = 65536
 
 unfoldable pub inputFault : List ℕ → ℕ
-inputFault bs = first (unless (leb (length bs) mostInput) 2) (bundleFault bs)
+inputFault bs = first (unless (leb (length bs) mostInput) LENGTH) (bundleFault bs)
 
 -- "A declined bundle prints only `refused N`, N being the number."
 abbrev pub unlessRefused : ℕ → List ℕ → List ℕ

@@ -1,10 +1,12 @@
 // The listing of a bundle, a line at a time.
 ghost use mathlib.Core.Path.{_≡_};
+ghost use mathlib.Core.List.{[], _∷_};
 ghost use Prim.Native.Nat.{_≤_, _<_};
 ghost use lib.ListN.{length};
+ghost use Rattle.words.specs.Refusal.{kept};
 ghost use Rattle.bundle.specs.Bundle.{bundleFault, bundleHeading, filesOf};
 ghost use Rattle.text.specs.Text.{written, lineRoom};
-ghost use Rattle.listing.specs.Listing.{lineOf, lineFault, lineLength, lineBuffer};
+ghost use Rattle.listing.specs.Listing.{lineOf, lineFault};
 use records::Heading;
 
 // The most bytes of an input: the definition's mostInput.
@@ -18,59 +20,46 @@ pub fn put_line(bytes: &[u8], h: Heading, files: usize, place: usize, out: &mut 
         × (r ≡ length (lineOf (now (bytes .entry)) place)) × (r ≤ lineRoom) ⌝ }
 {
     let number = fetch::job_number(bytes, h, place);
-    let answer = archive::place_answer(bytes, h, files, place);
-    if answer.fault != 0 {
-        return text::put_declined_line(out, 0, number, answer.fault);
+    let mut rows = [[0u64; 6]; 64];
+    let opened = archive::place_opening(bytes, h, files, place, &mut rows);
+    if opened.fault != 0 {
+        return text::put_declined_line(out, 0, number, opened.fault);
     }
-    let words = answer.words;
-    text::put_open_line(out, 0, number, answer.wrong, h.params.k, h.params.d, words)
+    text::put_open_line(
+        out,
+        0,
+        number,
+        opened.wrong,
+        h.params.k,
+        h.params.d,
+        rows[0],
+    )
 }
 
-// The fault of one line, 0 for none, and the line's length.
-pub struct Line {
-    pub fault: u8,
-    pub length: usize,
-}
-
-// One line of an accepted bundle.
-fn list_accepted(bytes: &[u8], files: usize, place: usize, out: &mut [u8]) -> Line
-    requires { ⌜ (bundleFault (now bytes) ≡ 0) × (files ≡ filesOf (now bytes)) ⌝ }
-    ensures { λ r. ⌜ (r .fault ≡ lineFault (now (bytes .entry)) place (length (now (out .entry))))
-        × (r .length ≡ lineLength (now (bytes .entry)) place (length (now (out .entry))))
-        × (now (out .exit) ≡ lineBuffer (now (bytes .entry)) place (now (out .entry))) ⌝ }
+// One line of a bundle, from the start of a lent buffer that is long enough for every line, and its length into an output of one word.
+pub fn list_line(bytes: &[u8], place: usize, line: &mut [u8], size: &mut [u64]) -> u8
+    ensures fault { λ r. ⌜ r ≡ lineFault (now (bytes .entry)) place (length (now (line .entry))) (length (now (size .entry))) ⌝ }
+    ensures line { λ _. ⌜ now (line .exit)
+        ≡ kept (lineFault (now (bytes .entry)) place (length (now (line .entry))) (length (now (size .entry)))) (now (line .entry))
+        (written 0 (lineOf (now (bytes .entry)) place) (now (line .entry))) ⌝ }
+    ensures size { λ _. ⌜ now (size .exit)
+        ≡ kept (lineFault (now (bytes .entry)) place (length (now (line .entry))) (length (now (size .entry)))) (now (size .entry))
+        (length (lineOf (now (bytes .entry)) place) ∷ []) ⌝ }
 {
-    if out.len() < text::LINE {
-        return Line {
-            fault: words::LENGTH,
-            length: 0,
-        };
+    let accepted = bundle::accept(bytes);
+    if accepted.fault != 0 {
+        return accepted.fault;
     }
-    let h = records::heading_at(bytes, records::ORDER_SIZE);
-    if h.jobs <= place {
-        return Line {
-            fault: words::OUT_OF_RANGE,
-            length: 0,
-        };
+    let h = accepted.heading;
+    let room = words::unless(text::LINE <= line.len(), words::LENGTH);
+    let fault = words::first(
+        words::length_fault(1, size.len()),
+        words::first(room, fetch::place_fault(h, place)),
+    );
+    if fault != 0 {
+        return fault;
     }
-    let n = put_line(bytes, h, files, place, out);
-    Line {
-        fault: 0,
-        length: n,
-    }
-}
-
-// One line of a bundle, from the start of a lent buffer that is long enough for every line.
-pub fn list_line(bytes: &[u8], place: usize, out: &mut [u8]) -> Line
-    ensures { λ r. ⌜ (r .fault ≡ lineFault (now (bytes .entry)) place (length (now (out .entry))))
-        × (r .length ≡ lineLength (now (bytes .entry)) place (length (now (out .entry))))
-        × (now (out .exit) ≡ lineBuffer (now (bytes .entry)) place (now (out .entry))) ⌝ }
-{
-    let checked = bundle::check_bundle(bytes);
-    match checked {
-        bundle::Checked::Refused(c) => Line {
-            fault: c,
-            length: 0,
-        },
-        bundle::Checked::Files(files) => list_accepted(bytes, files, place, out),
-    }
+    let n = put_line(bytes, h, accepted.files, place, line);
+    size[0] = n as u64;
+    0
 }

@@ -2,10 +2,10 @@
 ghost use mathlib.Core.Path.{_≡_};
 ghost use Prim.Native.Nat.{_≤_};
 ghost use lib.ListN.{length};
-ghost use Rattle.bundle.specs.Bundle.{bundleFault, filesOf};
-use bundle::Checked;
+ghost use Rattle.bundle.specs.Bundle.{bundleFault, bundleHeading, filesOf};
 use libc::STDIN_FILENO;
 use libc::STDOUT_FILENO;
+use records::Heading;
 
 // Prints the first n bytes of a text.
 fn print(text: &[u8], n: usize)
@@ -16,17 +16,16 @@ fn print(text: &[u8], n: usize)
 }
 
 fn refused(number: u8) {
-    let mut line = text::line_buffer();
+    let mut line = [0u8; text::LINE];
     let n = text::put_refused(&mut line, 0, number);
     print(&line, n);
 }
 
 // The listing of an accepted bundle, a line at a time.
-fn list(bytes: &[u8], files: usize)
-    requires { ⌜ (bundleFault (now bytes) ≡ 0) × (files ≡ filesOf (now bytes)) ⌝ }
+fn list(bytes: &[u8], h: Heading, files: usize)
+    requires { ⌜ (bundleFault (now bytes) ≡ 0) × (h ≡ bundleHeading (now bytes)) × (files ≡ filesOf (now bytes)) ⌝ }
 {
-    let h = records::heading_at(bytes, records::ORDER_SIZE);
-    let mut line = text::line_buffer();
+    let mut line = [0u8; text::LINE];
     let n = text::put_head(&mut line, 0);
     print(&line, n);
     let mut place: usize = 0;
@@ -38,10 +37,11 @@ fn list(bytes: &[u8], files: usize)
 }
 
 fn run(bytes: &[u8]) {
-    let checked = bundle::check_bundle(bytes);
-    match checked {
-        Checked::Refused(number) => refused(number),
-        Checked::Files(files) => list(bytes, files),
+    let accepted = bundle::accept(bytes);
+    if accepted.fault != 0 {
+        refused(accepted.fault);
+    } else {
+        list(bytes, accepted.heading, accepted.files);
     }
 }
 

@@ -11,7 +11,7 @@ use lib.ListN.{length, length-append}
 use Rattle.words.specs.declared.Signed.{Signed}
 use Rattle.words.specs.Signed.{signedOf}
 use Rattle.text.specs.Text.{ascii, decimal, signedText, afterCommas, joined, holdersFrom, holders, holdersText, wordsText}
-use Rattle.text.specs.Text.{lineRoom, headLine, refusedLine, jobLine, openLine, declinedLine}
+use Rattle.text.specs.Text.{lineRoom, refusedLine, jobLine, openLine, declinedLine}
 use Rattle.text.proofs.Decimal.{decimal-length}
 
 -- ---- the parts
@@ -143,6 +143,3 @@ refused-length n h =
       length-append (ascii "refused ") (decimal n),
       length-append (ascii "refused " ++ decimal n) (ascii "\n"),
     )
-
-pub head-length : length headLine ≤ lineRoom
-head-length = omega arith

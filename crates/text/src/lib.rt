@@ -8,15 +8,8 @@ ghost use Rattle.words.specs.Word.{allInWidth};
 ghost use Rattle.text.specs.Text.{written, decimal, signedText, holdersText, wordsText, readings};
 ghost use Rattle.text.specs.Text.{lineRoom, headLine, refusedLine, openLine, declinedLine};
 
-// Every line fits into so many bytes.
+// Every line fits into so many bytes: the definition's lineRoom.
 pub const LINE: usize = 400;
-
-// A buffer of that many: the definition's lineRoom.
-pub fn line_buffer() -> [u8; LINE]
-    ensures { λ r. ⌜ lineRoom ≡ length r ⌝ }
-{
-    [0; LINE]
-}
 
 pub fn put_byte(out: &mut [u8], at: usize, b: u8) -> usize
     requires { ⌜ at + 1 ≤ length (now out) ⌝ }
