@@ -1,9 +1,14 @@
-//! A year of the labs' jobs (k 16, d 4, n 15, t 4): dealt to fifteen labs, written to files, some of them lost and some damaged, then opened from
+//! A year of the labs' jobs (k 32, d 4, n 15, t 4): dealt to fifteen labs, written to files, some of them lost and some damaged, then opened from
 //! what is left, each job and the total of the thicknesses. It draws from a fixed generator, so that its output can be stored; a lab draws its
 //! coefficients from the system's random numbers.
 use yikescanvas::*;
 
-const BOOK: Params = Params { k: 16, d: 4, n: 15, t: 4 };
+/// One job fits into words of 16 bits, the totals of the year do not: the thicknesses alone come to 32,833 hundredths of a millimetre, and 32,767 is
+/// the most that a word of 16 bits reads as signed. Words of 32 bits read totals from -2^31 to 2^31 - 1, and a file is no longer for it: every
+/// word takes eight bytes, whatever k is.
+const BOOK: Params = Params { k: 32, d: 4, n: 15, t: 4 };
+/// The bits of a word.
+const MASK: u64 = (1 << BOOK.k) - 1;
 const JOBS: usize = 365;
 const ALLOWANCE: u8 = 3;
 
@@ -24,11 +29,11 @@ impl Draw {
     }
 }
 
-/// Sphere and cylinder in hundredths of a dioptre, axis in degrees, thickness in hundredths of a millimetre, as words of 16 bits.
+/// Sphere and cylinder in hundredths of a dioptre, axis in degrees, thickness in hundredths of a millimetre, as words of k bits.
 fn job(draw: &mut Draw) -> [u64; 4] {
     let sphere = 25 * draw.below(49) as i64 - 800;
     let cylinder = -25 * draw.below(13) as i64;
-    [sphere as u64 & 0xffff, cylinder as u64 & 0xffff, draw.below(181), 70 + draw.below(40)]
+    [sphere as u64 & MASK, cylinder as u64 & MASK, draw.below(181), 70 + draw.below(40)]
 }
 
 fn main() -> Result<(), Refusal> {
@@ -49,7 +54,7 @@ fn main() -> Result<(), Refusal> {
 
     // damage: lab 5 has the top bit of one word turned in every job, lab 9 another archive's shares, lab 12 some words of a few jobs
     for w in held[4].iter_mut().step_by(BOOK.d) {
-        *w ^= 1 << 15;
+        *w ^= 1 << (BOOK.k - 1);
     }
     for w in &mut held[8] {
         *w = draw.below(1 << BOOK.k);
@@ -89,14 +94,19 @@ fn main() -> Result<(), Refusal> {
         print!("{}", String::from_utf8_lossy(&line[..n]));
     }
 
-    // the total of the thicknesses, opened while each job stays closed
+    // the totals, opened while each job stays closed, and read as signed numbers: they are the sums of what was dealt
     let mut sums = [0; 4];
     let wrong = open_run(&bundle, 0, JOBS, &mut sums)?;
-    let plain: u64 = jobs.iter().map(|w| w[3]).sum();
-    println!("thickness in all: {} (dealt {}), wrong: {:?}", sums[3], plain % (1 << BOOK.k), holders(wrong).collect::<Vec<_>>());
+    for (j, name) in [(0, "sphere"), (3, "thickness")] {
+        let mut dealt = 0;
+        for words in &jobs {
+            dealt += signed(BOOK.k, words[j])?;
+        }
+        println!("{name} in all: {} (dealt {dealt}), wrong: {:?}", signed(BOOK.k, sums[j])?, holders(wrong).collect::<Vec<_>>());
+    }
     let mut share = [0; 4];
     total(&bundle, 1, 0, JOBS, &mut share)?;
-    println!("lab 1's share of it: {share:?}");
+    println!("lab 1's share of the totals: {share:?}");
 
     // what does not open says why
     println!("lab 3's file: {}", fetch_body(&bundle, 3, 0).unwrap_err());
@@ -104,7 +114,7 @@ fn main() -> Result<(), Refusal> {
     println!("six files alone: {}", six(&files, size)?);
     bundle.pop();
     println!("a byte less: {}", accept(&bundle).unwrap_err());
-    println!("word 65535 reads {}", signed(BOOK.k, 65535)?);
+    println!("word {MASK} reads {}", signed(BOOK.k, MASK)?);
     Ok(())
 }
 
