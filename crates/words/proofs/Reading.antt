@@ -1,19 +1,21 @@
--- The signed reading: sign and magnitude stand for the meaning, and a sum of words reads as the sum of their meanings where that fits.
--- Assumes nothing.
+-- The signed reading: sign and magnitude stand for the meaning, and so does the number of 64 bits in two's complement; a sum of words reads as
+-- the sum of their meanings where that fits. Assumes nothing.
 use mathlib.Core.Path.{_≡_, refl, sym, ap, _∙_}
 use mathlib.Core.Bool.{Bool, true, false, cond}
 use mathlib.Core.List.{List, [], _∷_}
 use Prim.Native.Nat.{ℕ, zero, suc, _+_, _-_, _*_, _/_, _%_, _^_, _≤_, _<_}
 use native.Mathlib.Nat.{mod-eq-of-lt, mod-lt, mod-mod, mod-add-div, add-mul-mod-self-left, zero-add}
-use native.Mathlib.Nat.{mul-one, pow-suc, not-suc-le-zero, div-eq-of-lt, lt-of-not-le, le-of-suc-le-suc}
+use native.Mathlib.Nat.{mul-one, pow-suc, pow-le-pow-right, not-suc-le-zero, div-eq-of-lt, lt-of-not-le, le-of-suc-le-suc}
 use native.Mathlib.Omega.{arith}
-use borrow.Author.Tests.{lt-ltb, le-ltb, ltb-false}
-use lib.Dec.{ltb, leb, leb→le}
+use borrow.Author.Tests.{lt-ltb, le-ltb, ltb-true, ltb-false}
+use lib.Dec.{ltb, leb, leb→le, lit<}
 use lib.Pow.{pow-pos}
 use lib.IntN.{ℤ, pos, negsuc, negℤ, natAbs, subℕ, _+ℤ_, _-ℤ_, +ℤ-assoc, +ℤ-comm, +ℤ-negℤ-cancel, -ℤ-+ℤ-cancel, pos-ne-negsuc}
 use lib.Signed.{_≤ℤ_, mag}
 use Rattle.words.specs.Word.{subW, negW}
-use Rattle.words.specs.Signed.{meaning, signedOf, integer, sumOfMeanings, sumOf}
+use Rattle.words.specs.Faults.{signedFault}
+use Rattle.words.specs.Signed.{meaning, signedOf, integer, twosComplement, int64, sumOfMeanings, sumOf}
+use Rattle.words.proofs.Signs.{signed-clear}
 
 two-halves : (k : ℕ) → 1 ≤ k → 2 ^ k ≡ 2 ^ (k - 1) + 2 ^ (k - 1)
 two-halves zero h = absurd (not-suc-le-zero h)
@@ -75,6 +77,36 @@ signed-integer k w h = by (ltb w (2 ^ (k - 1)))
         ≡ cond c (pos w) (pos w -ℤ pos (2 ^ k))
     by true = refl
     by false = minus (2 ^ k - w) (omega arith) (omega arith)
+
+-- and so does the number of 64 bits in two's complement
+pub complement-meaning : (k w : ℕ) → 1 ≤ k → k ≤ 64 → w < 2 ^ k → int64 (twosComplement (signedOf k w)) ≡ meaning k w
+unfolding int64 twosComplement signedOf meaning
+complement-meaning k w l u h = by (ltb w (2 ^ (k - 1))) refl
+  where
+    half : 2 ^ (k - 1) ≤ 2 ^ 63
+    half = pow-le-pow-right {n = 2} (lit< tt) {i = k - 1} {j = 63} (omega arith)
+
+    low : (x : ℕ) → x < 2 ^ 63 → int64 x ≡ pos x
+    low x b = rw (lt-ltb x (2 ^ 63) b)
+
+    high : (m : ℕ) → w + m ≡ 2 ^ k → 0 < m → m ≤ 2 ^ (k - 1) → int64 (2 ^ 64 - m) ≡ pos w -ℤ pos (2 ^ k)
+    high zero e p b = absurd (not-suc-le-zero p)
+    high (suc n) e p b =
+        rw (le-ltb (2 ^ 64 - suc n) (2 ^ 63) (omega (arith, half)))
+        (sub-of (2 ^ 64 - suc n) (2 ^ 64) n (omega (arith, half)) ∙ sym (sub-of w (2 ^ k) n e))
+
+    by : (c : Bool) → ltb w (2 ^ (k - 1)) ≡ c
+        → int64 (twosComplement (cond c (record { negative = false; magnitude = w }) (record { negative = true; magnitude = 2 ^ k - w })))
+        ≡ cond c (pos w) (pos w -ℤ pos (2 ^ k))
+    by true t = low w (omega (arith, half, ltb-true w (2 ^ (k - 1)) t))
+    by false t =
+        high (2 ^ k - w) (omega arith) (omega arith) (omega (arith, two-halves k l, ltb-false w (2 ^ (k - 1)) t))
+
+-- so what the call tells is the meaning of the word, wherever it does not decline
+pub signed-meaning : (k w n : ℕ) → signedFault k w n ≡ 0 → int64 (twosComplement (signedOf k w)) ≡ meaning k w
+signed-meaning k w n e =
+    let c = signed-clear k w n e in
+    complement-meaning k w (c .low) (c .high) (c .narrow)
 
 -- how often 2^k was taken off
 abbrev off : Bool → ℕ

@@ -23,6 +23,10 @@ integer s = cond (s .negative) (negℤ (pos (s .magnitude))) (pos (s .magnitude)
 unfoldable pub twosComplement : Signed → ℕ
 twosComplement s = cond (s .negative) (2 ^ 64 - s .magnitude) (s .magnitude)
 
+-- the integer that a number of 64 bits in two's complement stands for
+unfoldable pub int64 : ℕ → ℤ
+int64 x = cond (ltb x (2 ^ 63)) (pos x) (pos x -ℤ pos (2 ^ 64))
+
 -- "the sum of the jobs' signed values", and the sum of the words
 unfoldable pub sumOfMeanings : ℕ → List ℕ → ℤ
 unfolding meaning
