@@ -120,6 +120,19 @@ module _ (R : CommRing) where
   scale-unit zero a p = refl
   scale-unit (suc d) a p = ap₂ cons (simp (mul-one, add-zero)) (rw (scale-nil d a, vadd-comm (pad d nil) (pad d p), vadd-zero (pad d p)))
 
+  -- X^n, as a polynomial of n + 1 coefficients
+  abbrev pub tip : (n : ℕ) → Vec E (suc n)
+  tip zero = cons 𝟙 nil
+  tip (suc n) = cons 𝟘 (tip n)
+
+  push-tip : (n : ℕ) (x : E) → push x (tip n) ≡ cons x (pad n nil)
+  push-tip zero x = refl
+  push-tip (suc n) x = ap (cons x) (push-tip n 𝟘)
+
+  last-tip : (n : ℕ) (x : E) → last x (tip n) ≡ 𝟙
+  last-tip zero x = refl
+  last-tip (suc n) x = last-tip n 𝟘
+
   module _ {d : ℕ} (ρ : Vec E d) where
     -- times X
     unfoldable pub shift : Vec E d → Vec E d
@@ -179,6 +192,22 @@ module _ (R : CommRing) where
     pub vmul-assoc : (u v w : Vec E d) → act (act u v) w ≡ act u (act v w)
     vmul-assoc u v w = rw (vmul-comm (act u v) w, act-act w u v, vmul-comm w v)
 
+    -- times X^n; X itself
+    unfoldable pub shifts : ℕ → Vec E d → Vec E d
+    shifts zero u = u
+    shifts (suc n) u = shift (shifts n u)
+
+    act-tip : (n : ℕ) (u : Vec E d) → act (tip n) u ≡ shifts n u
+    unfolding act shifts
+    act-tip zero u = rw (shift-nil, vadd-zero, scale-one)
+    act-tip (suc n) u = rw (act-tip n u, scale-zero, vadd-comm (pad d nil) (shift (shifts n u)), vadd-zero)
+
+    pub act-x : 2 ≤ d → (u : Vec E d) → act (pad d (cons 𝟘 (cons 𝟙 nil))) u ≡ shift u
+    unfolding shifts
+    act-x h u =
+        let x : pad d (cons 𝟘 (cons 𝟙 nil)) ≡ shift (unit d) = sym (act-unit (tip 1) h) ∙ act-tip 1 (unit d) in
+        rw (x, vmul-comm (shift (unit d)) u, act-shift u (unit d), vmul-one u)
+
     abbrev pub Extension : CommRing
     Extension =
         record {
@@ -201,6 +230,13 @@ module _ (R : CommRing) where
     pub ext-times : (k : ℕ) (u : Vec E d) → times Extension k u ≡ scale (times R k 𝟙) u
     ext-times zero u = rw (times-zero R 𝟙, times-zero Extension u, scale-zero)
     ext-times (suc k) u = rw (times-suc R k 𝟙, times-suc Extension k u, add-scale, ext-times k u, scale-one)
+
+  -- X^d is ρ
+  pub shifts-all : {n : ℕ} (ρ : Vec E (suc n)) → shifts ρ (suc n) (unit (suc n)) ≡ ρ
+  unfolding shifts shift
+  shifts-all {n} ρ =
+      ap (shift ρ) (sym (act-tip ρ n (unit (suc n))) ∙ vmul-one ρ (tip n))
+      ∙ rw (push-tip n 𝟘, last-tip n 𝟘, scale-one, vadd-comm (pad (suc n) nil) ρ, vadd-zero)
 
 -- a map of rings goes through, coefficient by coefficient
 module _ {R S : CommRing} (f : Hom R S) where

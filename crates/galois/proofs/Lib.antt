@@ -2,6 +2,8 @@ pub mod Zmod
 pub mod Galois
 pub mod Table
 pub mod Lists
+pub mod Powers
+pub mod Modulus
 pub mod Find
 pub mod Elements
 pub mod Field

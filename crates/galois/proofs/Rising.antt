@@ -47,7 +47,7 @@ module _ (k d : ℕ) (l : Element) (len : length l ≡ d) where
       ∙ sym (addScaled-to k c (shift R ρ u) (shift R ρ v))
       ∙ ap₂ (addScaled k c) (sym (timesX-of k d l len x hx)) (sym (timesX-of k d l len y hy))
 
-  timesX-zero : timesX k l (zeroE d) ≡ zeroE d
+  pub timesX-zero : timesX k l (zeroE d) ≡ zeroE d
   timesX-zero =
       let z = pad (Zk k) d nil in
       ap (timesX k l) (zero-of k d) ∙ timesX-to k d l len z ∙ ap toList (shift-nil (Zk k) (rho (vec d l) k)) ∙ sym (zero-of k d)

@@ -1,3 +1,4 @@
 pub mod Element
 pub mod Field
 pub mod Inversion
+pub mod Modulus
