@@ -299,6 +299,13 @@ module _ {j k : ℕ} (h : j ≤ k) (d : ℕ) where
       sym (to-of j d (product k l a b) (length-product k l a b (n ∙ sym len) ∙ len)) ∙ ap toList (of-product l len a b m n)
       ∙ sym (product-of j d l len d a b m n)
 
+-- a product is the same in either order
+pub product-comm : (k d : ℕ) (l : Element) → length l ≡ d → (a b : Element) → length a ≡ d → length b ≡ d → product k l a b ≡ product k l b a
+product-comm k d l len a b m n =
+    product-of k d l len d a b m n
+    ∙ ap toList (Galois (vec d l) k .mul-comm (ofList k d a) (ofList k d b))
+    ∙ sym (product-of k d l len d b a n m)
+
 -- a product depends on its factors' words modulo 2^k alone
 pub product-same : (k d : ℕ) (l : Element) → length l ≡ d → (a b a′ b′ : Element) → length a ≡ d → length b ≡ d → length a′ ≡ d → length b′ ≡ d
     → ofList k d a ≡ ofList k d a′ → ofList k d b ≡ ofList k d b′ → product k l a b ≡ product k l a′ b′

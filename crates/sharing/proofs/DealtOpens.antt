@@ -1,8 +1,9 @@
 -- Demand 2 on the calls' own definitions. Dealt shares, at least t + 1 + 2e of them and of any holders, open to the dealing polynomial, and so to
 -- the job (`dealt-opens`); the sums of such shares of several jobs, share by share, to the sum of the polynomials, and so of the jobs
--- (`total-opens`); multiplied by one element, to the polynomial, and so the job, times that element (`multiple-opens`). Nobody is named wrong.
--- The same holds where up to e of the shares were changed in any way: then exactly the holders of the changed ones are named
--- (`changed-opens`, `changed-total-opens`, `changed-multiple-opens`). Assumes nothing.
+-- (`total-opens`); multiplied by one element, to the polynomial, and so the job, times that element, which may be either factor
+-- (`multiple-opens`, `multiple-opens-by`). Nobody is named wrong. The same holds where up to e of the shares were changed in any way: then exactly
+-- the holders of the changed ones are named (`changed-opens`, `changed-total-opens`, `changed-multiple-opens`, `changed-multiple-opens-by`).
+-- Assumes nothing.
 use mathlib.Core.Path.{_≡_, refl, sym, _∙_, ap, ap₂, subst}
 use mathlib.Core.Bool.{true}
 use mathlib.Core.List.{List, [], _∷_}
@@ -18,6 +19,8 @@ use Rattle.words.proofs.InRange.{InRange, ok-range, range-ok}
 use Rattle.algebra.specs.Shares.{All}
 use Rattle.algebra.proofs.Shares.{all-map}
 use Rattle.galois.specs.Element.{Element, sum, product, lower}
+use Rattle.galois.proofs.Lists.{product-comm}
+use Rattle.galois.proofs.Table.{length-lower}
 use Rattle.codewords.specs.Codeword.{Share, Polynomial, errorSet}
 use Rattle.codewords.specs.Linear.{sums, multiple}
 use Rattle.codewords.specs.Opening.{opens, secretInto, wrongInto}
@@ -26,14 +29,15 @@ use Rattle.codewords.proofs.ErrorSet.{ones-errors}
 use Rattle.codewords.proofs.Value.{Rows, rows-of}
 use Rattle.codewords.proofs.Linear.{sums-is-poly, multiple-is-poly, sums-free, multiple-free}
 use Rattle.sharing.specs.Dealing.{elementsOf, dealing, dealt, dealFault}
-use Rattle.sharing.specs.Dealt.{Dealable, dealtShares, sumsOf, multiplesOf, Job, totalOf, totalShares, totalDealing}
+use Rattle.sharing.specs.Dealt.{Dealable, dealtShares, sumsOf, multiplesOf, multiplesBy, Job, totalOf, totalShares, totalDealing}
 use Rattle.sharing.specs.Dealt.{totalSecret, Through, Present, changedIn, Changed, OpensTo}
 use Rattle.sharing.specs.Opening.{lent, opening}
 use Rattle.sharing.proofs.Elements.{elements-length}
 use Rattle.sharing.proofs.Faults.{deal-clear}
 use Rattle.sharing.proofs.Lent.{LentClear, clear-lent, clear-holders, width-take, width-drop}
 use Rattle.sharing.proofs.Opens.{lent-decides}
-use Rattle.sharing.proofs.Values.{values-length, values-width, of-dealt, errors-changed, multiple-values, sum-values, changed-none}
+use Rattle.sharing.proofs.Values.{values-length, values-width, of-dealt, errors-changed, sum-values, changed-none}
+use Rattle.sharing.proofs.Values.{multiple-values, multiple-values-by}
 
 -- what is dealt is a polynomial of degree at most t
 elements-are : (k d n : ℕ) (ws : List ℕ) → n * d ≤ length ws → allInWidth k ws ≡ true → All (IsElement k d) (elementsOf d n ws)
@@ -81,6 +85,17 @@ module _ (p : Params) (ok : paramsOk p ≡ true) (hs : List ℕ) where
         poly = multiple-is-poly (p .d) (range .d-low) (range .d-high) (p .k) (p .t) c l q (g .poly);
         values =
             ap (multiplesOf p hs c) (g .values) ∙ multiple-values (p .k) (p .d) (range .d-low) (range .d-high) q (rows g) c l hs;
+      }
+
+  -- with the element as the second factor
+  pub multiple-through-by : {vs : List ℕ} {q : Polynomial} (c : Element) → length c ≡ p .d → Through p hs vs q →
+      Through p hs (multiplesBy p hs vs c) (multiple (p .k) (p .d) c q)
+  multiple-through-by {vs} {q} c l g =
+      record {
+        poly = multiple-is-poly (p .d) (range .d-low) (range .d-high) (p .k) (p .t) c l q (g .poly);
+        values =
+            ap (λ (ws : List ℕ). multiplesBy p hs ws c) (g .values)
+            ∙ multiple-values-by (p .k) (p .d) (range .d-low) (range .d-high) q (rows g) c l hs;
       }
 
   -- also where up to e of them have been changed
@@ -160,6 +175,28 @@ module _ (p : Params) (hs : List ℕ) (e : ℕ) (present : Present p hs e) where
           (changedIn p hs (multiplesOf p hs c (dealtShares p hs secret coefficients)) ws)
       changed-multiple-opens =
           through-opens-changed p ok-params hs e present through-multiple (product (p .k) (lower (p .d)) c secret) free-multiple
+
+      -- the same with the element as the second factor, in the shares and in the job
+      through-multiple-by : Through p hs (multiplesBy p hs (dealtShares p hs secret coefficients) c)
+          (multiple (p .k) (p .d) c (dealing p secret coefficients))
+      through-multiple-by = multiple-through-by p ok-params hs c element dealt-through
+
+      free-multiple-by : getD (multiple (p .k) (p .d) c (dealing p secret coefficients)) 0 [] ≡ product (p .k) (lower (p .d)) secret c
+      free-multiple-by =
+          let r : InRange p = ok-range p ok-params in
+          let k = deal-clear p secret coefficients (dealable .n) (dealable .no-fault) in
+          free-multiple
+          ∙ product-comm (p .k) (p .d) (lower (p .d)) (length-lower (p .d) (r .d-low) (r .d-high)) c secret element (k .secret-length)
+
+      pub multiple-opens-by : OpensTo p hs (multiplesBy p hs (dealtShares p hs secret coefficients) c) e
+          (multiple (p .k) (p .d) c (dealing p secret coefficients)) (product (p .k) (lower (p .d)) secret c) 0
+      multiple-opens-by = through-opens p ok-params hs e present through-multiple-by (product (p .k) (lower (p .d)) secret c) free-multiple-by
+
+      pub changed-multiple-opens-by : (ws : List ℕ) → Changed p hs (multiplesBy p hs (dealtShares p hs secret coefficients) c) ws e →
+          OpensTo p hs ws e (multiple (p .k) (p .d) c (dealing p secret coefficients)) (product (p .k) (lower (p .d)) secret c)
+          (changedIn p hs (multiplesBy p hs (dealtShares p hs secret coefficients) c) ws)
+      changed-multiple-opens-by =
+          through-opens-changed p ok-params hs e present through-multiple-by (product (p .k) (lower (p .d)) secret c) free-multiple-by
 
   -- several jobs
   pub total-through : paramsOk p ≡ true → (vs : List ℕ) (q : Polynomial) → Through p hs vs q → (js : List Job) →

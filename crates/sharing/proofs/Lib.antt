@@ -8,3 +8,4 @@ pub mod Loaded
 pub mod Opens
 pub mod Values
 pub mod DealtOpens
+pub mod DealtShare

@@ -13,6 +13,8 @@ use Rattle.words.specs.Word.{inWidth, allInWidth}
 use Rattle.words.proofs.Tests.{and-left, and-right, and-both}
 use Rattle.galois.specs.Element.{Element, sum, product, lower, point, same}
 use Rattle.galois.proofs.Elements.{same-refl}
+use Rattle.galois.proofs.Lists.{product-comm}
+use Rattle.galois.proofs.Table.{length-lower}
 use Rattle.galois.proofs.Points.{length-point}
 use Rattle.polynomial.specs.Polynomial.{Polynomial, value}
 use Rattle.codewords.specs.Codeword.{Share, when, differs, errorSet}
@@ -89,6 +91,14 @@ module _ (k d : ℕ) (dl : 2 ≤ d) (dh : d ≤ 6) where
       → onEach (product k (lower d) a) d (length hs) (valuesAt k d q hs) ≡ valuesAt k d (multiple k d a q) hs
   multiple-values q rows a l =
       each-value q rows (product k (lower d) a) (multiple k d a q) (λ h. sym (value-multiple d dl dh k a l q rows (point d h) (length-point d h)))
+
+  -- in the other order
+  pub multiple-values-by : (q : Polynomial) → Rows d q → (a : Element) → length a ≡ d → (hs : List ℕ)
+      → onEach (λ (v : Element). product k (lower d) v a) d (length hs) (valuesAt k d q hs) ≡ valuesAt k d (multiple k d a q) hs
+  multiple-values-by q rows a l =
+      each-value q rows (λ (v : Element). product k (lower d) v a) (multiple k d a q)
+      (λ h. product-comm k d (lower d) (length-lower d dl dh) (value k d q (point d h)) a (share-length k d dl dh q rows h) l
+      ∙ sym (value-multiple d dl dh k a l q rows (point d h) (length-point d h)))
 
   pub sum-values : (q r : Polynomial) → Rows d q → Rows d r → length q ≡ length r → (hs : List ℕ)
       → onPairs (sum k) d (length hs) (valuesAt k d q hs) (valuesAt k d r hs) ≡ valuesAt k d (sums k q r) hs

@@ -32,6 +32,10 @@ sumsOf p hs vs ws = onPairs (sum (p .k)) (p .d) (length hs) vs ws
 abbrev pub multiplesOf : Params → List ℕ → Element → List ℕ → List ℕ
 multiplesOf p hs c vs = onEach (product (p .k) (lower (p .d)) c) (p .d) (length hs) vs
 
+-- the same with the element as the second factor
+abbrev pub multiplesBy : Params → List ℕ → List ℕ → Element → List ℕ
+multiplesBy p hs vs c = onEach (λ (v : Element). product (p .k) (lower (p .d)) v c) (p .d) (length hs) vs
+
 -- a second job and more, added one after another: to the shares of the first, to its polynomial and to its words
 pub record Job : Type 0 where
   pub secret : List ℕ
