@@ -85,7 +85,7 @@ fn load_run(
 }
 
 // The shares in the rows, one of each file, opened under the files' holders with the bundle's error bound; `seen` is all their words together,
-// bit by bit, before any sum.
+// bit by bit, before any sum. The shares' rows are room for the search: only how many they are is promised of them after.
 fn decode_files(
     bytes: &[u8],
     h: Heading,
@@ -102,6 +102,7 @@ fn decode_files(
     ensures wrong { λ r. ⌜ r .wrong ≡ wrongOf (h .params .k) (h .params .d) (sharesIn (now (bytes .entry)) (now (shares .entry)))
         (openingOf (now (bytes .entry)) seen (now (shares .entry))) ⌝ }
     ensures shaped { λ _. ⌜ Shaped (now (rows .exit)) ⌝ }
+    ensures room { λ _. ⌜ length (now (shares .exit)) ≡ 63 ⌝ }
 {
     if !words::in_width(h.params.k, seen) {
         return Opened {

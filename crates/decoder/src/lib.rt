@@ -188,6 +188,7 @@ fn search(
     ensures wrong { λ r. ⌜ r .wrong ≡ wrongOf k d (sharesOf d m (now (hs .entry)) (now (ys .entry)))
         (fromCodeword (codeword k d t e (sharesOf d m (now (hs .entry)) (now (ys .entry))))) ⌝ }
     ensures shaped { λ _. ⌜ Shaped (now (rows .exit)) ⌝ }
+    ensures room { λ _. ⌜ (length (now (hs .exit)) ≡ 63) × (length (now (ys .exit)) ≡ 63) ⌝ }
 {
     let mut wrong: u64 = 0;
     let mut bound = e;
@@ -215,7 +216,7 @@ fn search(
 }
 
 // What m shares under rising holders open to with the error bound e, of any size: the polynomial in `rows`, if there is no fault. The arrays
-// of holders and shares are room to work in: nothing is promised of them after.
+// of holders and shares are room to work in: nothing is promised of them after but how long they are.
 pub fn decode(
     p: words::Params,
     m: usize,
@@ -232,6 +233,7 @@ pub fn decode(
     ensures wrong { λ r. ⌜ r .wrong ≡ wrongOf (p .k) (p .d) (sharesOf (p .d) m (now (holders .entry)) (now (shares .entry)))
         (answerTo p e (sharesOf (p .d) m (now (holders .entry)) (now (shares .entry)))) ⌝ }
     ensures shaped { λ _. ⌜ Shaped (now (rows .exit)) ⌝ }
+    ensures room { λ _. ⌜ (length (now (holders .exit)) ≡ 63) × (length (now (shares .exit)) ≡ 63) ⌝ }
 {
     if m <= p.t {
         return Opened {

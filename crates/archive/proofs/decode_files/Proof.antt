@@ -31,7 +31,7 @@ returns c =
     let z : O s ≡ declines WIDE-WORD =
     opens-wide (bs s) (s .args .h) (s .pre .1) (s .args .files) (s .pre .2) (now (s .args .shares)) (s .args .seen)
     (sym (c .before .in-width .ensures) ∙ not-true _ (c .if1 .taken)) in
-    rw z (refl, (refl, s .pre .5))
+    rw z (refl, (refl, (s .pre .5, s .pre .4)))
 
 -- the shares in arrays are the files', and what they open to
 abbrev S : tie.After-load-holders → tie.Start
@@ -69,7 +69,7 @@ returns-2 c =
     let o =
     opens-narrow (bs s) (s .args .h) (s .pre .1) (s .args .files) (s .pre .2) (now (s .args .shares)) (s .args .seen) _ (same l) (m .result) (m .ensures)
     (narrow l) in
-    (d .0 ∙ o, (d .1 .0 ∙ ap₂ (wrongOf (s .args .h .params .k) (s .args .h .params .d)) (same l) o, d .1 .1))
+    (d .0 ∙ o, (d .1 .0 ∙ ap₂ (wrongOf (s .args .h .params .k) (s .args .h .params .d)) (same l) o, (d .1 .1 .0, d .1 .1 .1 .1)))
 
 pub decode-files-spec : {M : Type 1} → statement M
 decode-files-spec =

@@ -33,7 +33,7 @@ enough : (c : tie.Else2) → let s = c .before .before .before .before in s .arg
 enough c = omega (arith, c .if2 .left, c .before .before .if1 .left)
 
 returns : tie.Need-returns
-returns c = let s = c .before .before in rw (few s (omega (arith, c .if1 .taken))) (refl, (refl, s .pre .6))
+returns c = let s = c .before .before in rw (few s (omega (arith, c .if1 .taken))) (refl, (refl, (s .pre .6, (s .pre .4, s .pre .5))))
 
 sub-if2 : tie.Need-sub-if2
 sub-if2 c = search needs
@@ -44,7 +44,7 @@ sub-if2-2 c = search needs
 returns-2 : tie.Need-returns-2
 returns-2 c =
     let s = c .before .before .before .before in
-    rw (few s (omega (arith, c .before .before .if1 .left, c .if2 .taken))) (refl, (refl, s .pre .6))
+    rw (few s (omega (arith, c .before .before .if1 .left, c .if2 .taken))) (refl, (refl, (s .pre .6, (s .pre .4, s .pre .5))))
 
 search-requires : tie.Need-search-requires
 search-requires c κs =

@@ -110,7 +110,8 @@ returns : tie.Need-returns Inv-loop μ-loop
 returns c =
     let g = c .before .before in
     let r = level g Nothing (c .enum-told .given .1) in
-    (r .0, (r .1, g .decode-level .ensures .1))
+    let v = head g .loop .inv in
+    (r .0, (r .1, (g .decode-level .ensures .1, (v .1, v .2))))
 
 -- holders are named
 abbrev Named : Type 0
@@ -138,7 +139,8 @@ returns-2 : tie.Need-returns-2 Inv-loop μ-loop
 returns-2 c =
     let n = c .before in
     let r = wrong-level n true (c .if1 .taken) .1 in
-    (r .0, (r .1, interpolated (given n) .interpolate .ensures .1))
+    let v = head (given n) .loop .inv in
+    (r .0, (r .1, (interpolated (given n) .interpolate .ensures .1, (v .1, v .2))))
 
 -- some of them only
 jumped : (c : tie.Else1 Inv-loop μ-loop) →

@@ -96,7 +96,7 @@ hand-out-requires : tie.Need-hand-out-requires
 hand-out-requires c κs =
     let a = c .before .before .before in
     let k = known (a .before .before .before .before .before .before) in
-    ((k .range .d-low, k .range .d-high), a .decode .ensures .1 .1, k .out-length, k .wrong-length)
+    ((k .range .d-low, k .range .d-high), a .decode .ensures .1 .1 .0, k .out-length, k .wrong-length)
 
 same-length : tie.Need-same-length
 same-length c = search needs
@@ -116,7 +116,7 @@ returns-2 c =
     let z =
     opening-clear p (s .args .holders .now) (s .args .shares .now) (s .args .e) (length (s .args .out .now)) (length (s .args .wrong .now))
     (no-fault (l .before .before)) in
-    let g = handed (p .k) (p .d) (p .t) ss (a .decode .result .fault) _ (a .decode .result .wrong) _ (e .1 .1) (e .0) (e .1 .0) in
+    let g = handed (p .k) (p .d) (p .t) ss (a .decode .result .fault) _ (a .decode .result .wrong) _ (e .1 .1 .0) (e .0) (e .1 .0) in
     rw z (h .0 ∙ g .fault, (h .1 .0 ∙ g .secret (s .args .out .now), h .1 .1 ∙ g .wrong (s .args .wrong .now)))
 
 pub open-shares-spec : {M : Type 1} → statement M
