@@ -1,21 +1,19 @@
--- The wrong holders as a number: bit h − 1 is set for the holder h of a file whose share differs, and clear for the holder of one whose share does
--- not (`bit-of-file`) and for every other holder (`bit-of-none`). Assumes nothing.
-use mathlib.Core.Path.{_≡_, _∙_}
-use mathlib.Core.Logic.{_≢_}
+-- The wrong holders as a number, by file: bit h − 1 is set for the holder h of a file whose share differs, and clear for the holder of one whose
+-- share does not (`bit-of-file`). Assumes nothing.
+use mathlib.Core.Path.{_≡_}
 use mathlib.Core.List.{List}
-use Prim.Native.Nat.{ℕ, suc, _-_, _/_, _%_, _^_, _≤_, _<_}
-use native.Mathlib.Omega.{arith}
+use Prim.Native.Nat.{ℕ, _-_, _/_, _%_, _^_, _≤_, _<_}
 use lib.ListN.{getD}
 use Rattle.algebra.specs.Shares.{All}
 use Rattle.algebra.proofs.Shares.{all-map, all-at}
 use Rattle.galois.specs.Element.{Element}
 use Rattle.codewords.specs.Codeword.{Share, Polynomial, when, differs, errorSet}
-use Rattle.codewords.proofs.ErrorSet.{bit-clear, set-marks}
+use Rattle.codewords.proofs.ErrorSet.{set-marks}
 use Rattle.codewords.proofs.Without.{Marks, errorSet-tally}
 use Rattle.bundle.specs.Bundle.{bundleFault, paramsOf, filesOf, holderOf}
 use Rattle.totals.proofs.Values.{value-at}
 use Rattle.archive.specs.Archive.{shareBy, sharesBy}
-use Rattle.archive.proofs.Shares.{values-all, shares-count, shares-holders}
+use Rattle.archive.proofs.Shares.{shares-count, shares-holders}
 
 module _ (bs : List ℕ) (z : bundleFault bs ≡ 0) (w : ℕ → Element) (p : Polynomial) where
   abbrev k : ℕ
@@ -41,10 +39,3 @@ module _ (bs : List ℕ) (z : bundleFault bs ≡ 0) (w : ℕ → Element) (p : P
       let e : getD ss f s ≡ s = value-at (shareBy bs w) (filesOf bs) f s l in
       rw e at
       (all-at (λ (r : Share). errorSet k d p ss / 2 ^ (r .holder - 1) % 2 ≡ when (differs k d p r) 1) ss f s marks (rw (shares-count bs w) l))
-
-  pub bit-of-none : (h : ℕ) → 1 ≤ h → ((f : ℕ) → f < filesOf bs → h ≢ holderOf bs f) →
-      errorSet (paramsOf bs .k) (paramsOf bs .d) p (sharesBy bs w) / 2 ^ (h - 1) % 2 ≡ 0
-  bit-of-none h l n =
-      let e : h ≡ suc (h - 1) = omega arith in
-      bit-clear k d p ss (h - 1) low (shares-holders bs z w .1)
-      (values-all (λ (s : Share). suc (h - 1) ≢ s .holder) (shareBy bs w) 0 (filesOf bs) (λ j x u q. n j (omega arith) (e ∙ q)))

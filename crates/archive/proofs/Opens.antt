@@ -1,108 +1,121 @@
--- Demand 3 for the calls that open a job by its place, or a run. Where none of the refusals ahead of 5 applies (`PlaceClear`, `RunClear`): with fewer
--- than t + 1 + 2e files the call declines with 5 (`place-few`, `run-few`). With that many or more (`place-decides`, `run-decides`) it gives the
--- polynomial of degree at most t that differs from e shares or fewer, exactly when there is one, of whose holders at most e are named; and it
--- declines, with 6, exactly when there is none. So a run that opens is clear, and has files enough (`run-opened`). Assumes nothing.
+-- Demand 3 for the calls that open a job by its place, or a run, by what they returned (`place-tells`, `run-tells`); and of what the shares open to,
+-- where none of the refusals ahead of 5 applies and there are files enough (`place-decides`, `run-decides`), as there are where a run opens
+-- (`run-opened`). Assumes nothing.
 use mathlib.Core.Path.{_≡_, refl, sym, _∙_, subst}
 use mathlib.Core.List.{List}
-use Prim.Native.Nat.{ℕ, zero, suc, _+_, _-_, _*_}
-use native.Mathlib.Decide.{decLe}
-use native.Mathlib.Omega.{arith}
-use Rattle.words.specs.Faults.{lengthFault}
-use Rattle.words.specs.Refusal.{unless, WIDE-WORD, TOO-FEW-SHARES}
-use Rattle.words.proofs.InRange.{range-ok}
-use Rattle.words.proofs.Faults.{length-clear, clear-length}
-use Rattle.words.proofs.Refusal.{first-left, first-right, first-none, unless-held, unless-yes}
-use Rattle.galois.specs.Element.{Element}
+use Prim.Native.Nat.{ℕ, zero, suc, _-_}
+use lib.ListN.{length}
+use Rattle.words.specs.Refusal.{first, unless, WIDE-WORD, OUT-OF-RANGE}
 use Rattle.codewords.specs.Codeword.{Polynomial}
-use Rattle.codewords.specs.Demand.{Decides}
-use Rattle.codewords.specs.Opening.{Opening, declines, opens, unlessFault, answerTo}
-use Rattle.codewords.proofs.Opening.{opens-not, unless-none, answer-few, answer-decides}
-use Rattle.bundle.specs.Bundle.{bundleHeading, bundleFault, paramsOf, allowanceOf, filesOf}
-use Rattle.bundle.proofs.Bundles.{bundle-ok, bundle-ranges}
+use Rattle.codewords.specs.Demand.{Decides, Outputs, Returned}
+use Rattle.codewords.specs.Opening.{Opening, opens, unlessFault, answerTo}
+use Rattle.codewords.proofs.Tells.{other, other-unless, Ahead, call-decides, call-opened, tells}
+use Rattle.bundle.specs.Bundle.{bundleHeading, paramsOf, allowanceOf, filesOf}
+use Rattle.bundle.specs.Contents.{wordsOf}
 use Rattle.fetch.specs.Fetch.{placeFault, runFault}
-use Rattle.fetch.proofs.Fetch.{place-none, run-in, run-none}
-use Rattle.archive.specs.Archive.{sharesBy, sharesAt, sharesOver, placeInWidth, filesInWidth, placeOpening, runOpening, openingFault}
-use Rattle.archive.specs.Archive.{openPlace, openRun}
-use Rattle.archive.specs.Clear.{PlaceClear, RunClear, Enough, Few}
-use Rattle.archive.proofs.Shares.{shares-count, shares-holders}
+use Rattle.fetch.proofs.Fetch.{place-in, place-none, run-in, run-none}
+use Rattle.totals.specs.Total.{runTotal}
+use Rattle.archive.specs.Archive.{sharesAt, sharesOver, placeInWidth, filesInWidth, placeOpening, runOpening, openingFault, openPlace, openRun}
+use Rattle.archive.specs.Clear.{PlaceClear, RunClear, Enough, PlaceReturned, PlaceTells, RunReturned, RunTells}
+use Rattle.archive.proofs.Ahead.{aheadFault, Passed, ahead-of}
+use Rattle.archive.proofs.Shares.{shares-count}
 
-clear-fault : (bs : List ℕ) (n w c : ℕ) → bundleFault bs ≡ 0 → n ≡ paramsOf bs .d → w ≡ 1 → c ≡ 0 → openingFault bs n w c ≡ 0
-unfolding openingFault
-clear-fault bs n w c z o u e =
-    first-none (bundleFault bs) _ z
-    ∙ first-none (lengthFault (paramsOf bs .d) n) _ (clear-length (paramsOf bs .d) n o)
-    ∙ first-none (lengthFault 1 w) c (clear-length 1 w u)
-    ∙ e
+-- two faults ahead of an opening, and the first of them
+unless-first : (a b : ℕ) (o : Opening) → unlessFault a (unlessFault b o) ≡ unlessFault (first a b) o
+unfolding first
+unless-first zero b o = refl
+unless-first (suc a) b o = refl
 
-place-answer : (bs : List ℕ) (p n w : ℕ) → PlaceClear bs p n w → openPlace bs p n w ≡ answerTo (paramsOf bs) (allowanceOf bs) (sharesAt bs p)
-unfolding openPlace placeOpening
-place-answer bs p n w c =
-    unless-none (openingFault bs n w (placeFault (bundleHeading bs) p)) (placeOpening bs p)
-    (clear-fault bs n w _ (c .no-fault) (c .output) (c .wrong-output) (place-none (bundleHeading bs) p (c .place)))
-    ∙ unless-none (unless (placeInWidth bs p) WIDE-WORD) _ (unless-yes (placeInWidth bs p) WIDE-WORD (c .width))
+-- ---- the job at a place
 
-run-answer : (bs : List ℕ) (a b n w : ℕ) → RunClear bs a b n w →
-    openRun bs a b n w ≡ answerTo (paramsOf bs) (allowanceOf bs) (sharesOver bs a (b - a))
-unfolding openRun runOpening
-run-answer bs a b n w c =
-    unless-none (openingFault bs n w (runFault (bundleHeading bs) a b)) (runOpening bs a (b - a))
-    (clear-fault bs n w _ (c .no-fault) (c .output) (c .wrong-output) (run-none (bundleHeading bs) a b (c .low) (c .high)))
-    ∙ unless-none (unless (filesInWidth bs a (b - a)) WIDE-WORD) _ (unless-yes (filesInWidth bs a (b - a)) WIDE-WORD (c .width))
+module _ (bs : List ℕ) (p n w : ℕ) where
+  abbrev place-fault : ℕ
+  place-fault = aheadFault bs n w (placeFault (bundleHeading bs) p) (placeInWidth bs p)
 
-shares-decide : (bs : List ℕ) (w : ℕ → Element) → bundleFault bs ≡ 0 → Enough bs →
-    Decides (paramsOf bs) (allowanceOf bs) (sharesBy bs w) (answerTo (paramsOf bs) (allowanceOf bs) (sharesBy bs w))
-shares-decide bs w z m =
-    answer-decides (paramsOf bs) (range-ok (paramsOf bs) (bundle-ranges bs (bundle-ok bs z) .book)) (allowanceOf bs) (sharesBy bs w) (shares-holders bs z w)
-    (rw (shares-count bs w) m)
-
-pub place-few : (bs : List ℕ) (p n w : ℕ) → PlaceClear bs p n w → Few bs → openPlace bs p n w ≡ declines TOO-FEW-SHARES
-place-few bs p n w c m =
-    place-answer bs p n w c ∙ answer-few (paramsOf bs) (allowanceOf bs) (sharesAt bs p) (rw (shares-count bs _) m)
-
-pub run-few : (bs : List ℕ) (a b n w : ℕ) → RunClear bs a b n w → Few bs → openRun bs a b n w ≡ declines TOO-FEW-SHARES
-run-few bs a b n w c m =
-    run-answer bs a b n w c ∙ answer-few (paramsOf bs) (allowanceOf bs) (sharesOver bs a (b - a)) (rw (shares-count bs _) m)
-
-pub place-decides : (bs : List ℕ) (p n w : ℕ) → PlaceClear bs p n w → Enough bs →
-    Decides (paramsOf bs) (allowanceOf bs) (sharesAt bs p) (openPlace bs p n w)
-place-decides bs p n w c m =
-    subst (Decides (paramsOf bs) (allowanceOf bs) (sharesAt bs p)) (sym (place-answer bs p n w c)) (shares-decide bs _ (c .no-fault) m)
-
-pub run-decides : (bs : List ℕ) (a b n w : ℕ) → RunClear bs a b n w → Enough bs →
-    Decides (paramsOf bs) (allowanceOf bs) (sharesOver bs a (b - a)) (openRun bs a b n w)
-run-decides bs a b n w c m =
-    subst (Decides (paramsOf bs) (allowanceOf bs) (sharesOver bs a (b - a))) (sym (run-answer bs a b n w c)) (shares-decide bs _ (c .no-fault) m)
-
--- ---- what opens
-
-unless-opens : (c : ℕ) (o : Opening) (q : Polynomial) → unlessFault c o ≡ opens q → (c ≡ 0) × (o ≡ opens q)
-unless-opens zero o q e = (refl, e)
-unless-opens (suc c) o q e = opens-not (sym e)
-
-shares-enough : (bs : List ℕ) (w : ℕ → Element) (q : Polynomial) → answerTo (paramsOf bs) (allowanceOf bs) (sharesBy bs w) ≡ opens q → Enough bs
-shares-enough bs w q e =
-    elim (decLe (paramsOf bs .t + 1 + 2 * allowanceOf bs) (filesOf bs)) [
-      | yes m ↦ m
-      | no m ↦ (let few : Few bs = omega arith in
-          opens-not (sym e ∙ answer-few (paramsOf bs) (allowanceOf bs) (sharesBy bs w) (rw (shares-count bs w) few)))
-    ]
-
-pub run-opened : (bs : List ℕ) (a b n w : ℕ) (q : Polynomial) → openRun bs a b n w ≡ opens q → RunClear bs a b n w × Enough bs
-unfolding openRun runOpening openingFault
-run-opened bs a b n w q e =
-    let d = paramsOf bs .d in
-    let x = unless-opens (openingFault bs n w (runFault (bundleHeading bs) a b)) (runOpening bs a (b - a)) q e in
-    let y = unless-opens (unless (filesInWidth bs a (b - a)) WIDE-WORD) _ q (x .1) in
-    let z₁ = first-right (bundleFault bs) _ (x .0) in
-    let z₂ = first-right (lengthFault d n) _ z₁ in
-    let run = run-in (bundleHeading bs) a b (first-right (lengthFault 1 w) _ z₂) in (
+  place-ahead : Ahead (paramsOf bs) (sharesAt bs p) (PlaceClear bs p n w) place-fault
+  unfolding placeFault
+  place-ahead =
+      ahead-of bs n w (placeFault (bundleHeading bs) p) (placeInWidth bs p) (λ f. wordsOf bs f p)
+      (λ x.
       record {
-        no-fault = first-left (bundleFault bs) _ (x .0);
-        output = length-clear d n (first-left (lengthFault d n) _ z₁);
-        wrong-output = length-clear 1 w (first-left (lengthFault 1 w) _ z₂);
+        no-fault = x .no-fault;
+        output = x .output;
+        wrong-output = x .wrong-output;
+        place = place-in (bundleHeading bs) p (x .rest);
+        width = x .width;
+      })
+      (λ c.
+      record {
+        no-fault = c .no-fault;
+        output = c .output;
+        wrong-output = c .wrong-output;
+        rest = place-none (bundleHeading bs) p (c .place);
+        width = c .width;
+      })
+      (other-unless _ OUT-OF-RANGE refl)
+
+  place-is : openPlace bs p n w ≡ unlessFault place-fault (answerTo (paramsOf bs) (allowanceOf bs) (sharesAt bs p))
+  unfolding openPlace placeOpening
+  place-is = unless-first (openingFault bs n w (placeFault (bundleHeading bs) p)) (unless (placeInWidth bs p) WIDE-WORD) _
+
+  pub place-decides : PlaceClear bs p n w → Enough bs → Decides (paramsOf bs) (allowanceOf bs) (sharesAt bs p) (openPlace bs p n w)
+  place-decides c m =
+      subst (Decides (paramsOf bs) (allowanceOf bs) (sharesAt bs p)) (sym place-is)
+      (call-decides (paramsOf bs) (allowanceOf bs) (sharesAt bs p) place-ahead c (rw (shares-count bs (λ f. wordsOf bs f p)) m))
+
+pub place-tells : (bs : List ℕ) (p : ℕ) (old : Outputs) (r : ℕ) (new : Outputs) → PlaceReturned bs p old r new → PlaceTells bs p old r new
+place-tells bs p old r new g =
+    let n = length (old .job) in
+    let w = length (old .wrong) in
+    tells (paramsOf bs) (allowanceOf bs) (sharesAt bs p) (place-ahead bs p n w) old r new
+    (subst (λ o. Returned (paramsOf bs) (sharesAt bs p) o old r new) (place-is bs p n w) g)
+
+-- ---- a run
+
+module _ (bs : List ℕ) (a b n w : ℕ) where
+  abbrev run-fault : ℕ
+  run-fault = aheadFault bs n w (runFault (bundleHeading bs) a b) (filesInWidth bs a (b - a))
+
+  run-ahead : Ahead (paramsOf bs) (sharesOver bs a (b - a)) (RunClear bs a b n w) run-fault
+  unfolding runFault
+  run-ahead =
+      ahead-of bs n w (runFault (bundleHeading bs) a b) (filesInWidth bs a (b - a)) (λ f. runTotal bs f a (b - a))
+      (λ x. let run = run-in (bundleHeading bs) a b (x .rest) in
+      record {
+        no-fault = x .no-fault;
+        output = x .output;
+        wrong-output = x .wrong-output;
         low = run .0;
         high = run .1;
-        width = unless-held (filesInWidth bs a (b - a)) WIDE-WORD (omega arith) (y .0);
-      },
-      shares-enough bs _ q (y .1),
-    )
+        width = x .width;
+      })
+      (λ c.
+      record {
+        no-fault = c .no-fault;
+        output = c .output;
+        wrong-output = c .wrong-output;
+        rest = run-none (bundleHeading bs) a b (c .low) (c .high);
+        width = c .width;
+      })
+      (other-unless _ OUT-OF-RANGE refl)
+
+  run-is : openRun bs a b n w ≡ unlessFault run-fault (answerTo (paramsOf bs) (allowanceOf bs) (sharesOver bs a (b - a)))
+  unfolding openRun runOpening
+  run-is = unless-first (openingFault bs n w (runFault (bundleHeading bs) a b)) (unless (filesInWidth bs a (b - a)) WIDE-WORD) _
+
+  pub run-decides : RunClear bs a b n w → Enough bs → Decides (paramsOf bs) (allowanceOf bs) (sharesOver bs a (b - a)) (openRun bs a b n w)
+  run-decides c m =
+      subst (Decides (paramsOf bs) (allowanceOf bs) (sharesOver bs a (b - a))) (sym run-is)
+      (call-decides (paramsOf bs) (allowanceOf bs) (sharesOver bs a (b - a)) run-ahead c (rw (shares-count bs (λ f. runTotal bs f a (b - a))) m))
+
+  pub run-opened : (q : Polynomial) → openRun bs a b n w ≡ opens q → RunClear bs a b n w × Enough bs
+  run-opened q e =
+      let x = call-opened (paramsOf bs) (allowanceOf bs) (sharesOver bs a (b - a)) run-ahead q (sym run-is ∙ e) in
+      (x .0, rw (shares-count bs (λ f. runTotal bs f a (b - a))) at (x .1))
+
+pub run-tells : (bs : List ℕ) (a b : ℕ) (old : Outputs) (r : ℕ) (new : Outputs) → RunReturned bs a b old r new → RunTells bs a b old r new
+run-tells bs a b old r new g =
+    let n = length (old .job) in
+    let w = length (old .wrong) in
+    tells (paramsOf bs) (allowanceOf bs) (sharesOver bs a (b - a)) (run-ahead bs a b n w) old r new
+    (subst (λ o. Returned (paramsOf bs) (sharesOver bs a (b - a)) o old r new) (run-is bs a b n w) g)

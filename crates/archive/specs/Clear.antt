@@ -1,11 +1,13 @@
--- What the theorems on opening a job or a run of a bundle ask of the call: none of the refusals ahead of 5 applies, with an output of n words for
--- the job and one of w for the wrong holders; and that the files are as many as are needed, or fewer. Assumes nothing.
+-- What the theorems on opening a job or a run of a bundle speak of: that none of the refusals ahead of 5 applies, with an output of n words for the
+-- job and one of w for the wrong holders; that the files are as many as are needed; and demand 3 of the calls by what they returned. Assumes nothing.
 use Prim.Native.Nat.{ℕ, _+_, _-_, _*_, _≤_, _<_}
 use mathlib.Core.Path.{_≡_}
 use mathlib.Core.Bool.{true}
 use mathlib.Core.List.{List}
+use lib.ListN.{length}
+use Rattle.codewords.specs.Demand.{Outputs, Returned, Tells}
 use Rattle.bundle.specs.Bundle.{bundleHeading, bundleFault, paramsOf, allowanceOf, filesOf}
-use Rattle.archive.specs.Archive.{placeInWidth, filesInWidth}
+use Rattle.archive.specs.Archive.{sharesAt, sharesOver, placeInWidth, filesInWidth, openPlace, openRun}
 
 -- of the job at place p
 pub record PlaceClear (bs : List ℕ) (p n w : ℕ) : Type 0 where
@@ -28,5 +30,20 @@ pub record RunClear (bs : List ℕ) (a b n w : ℕ) : Type 0 where
 abbrev pub Enough : List ℕ → Type 0
 Enough bs = paramsOf bs .t + 1 + 2 * allowanceOf bs ≤ filesOf bs
 
-abbrev pub Few : List ℕ → Type 0
-Few bs = filesOf bs < paramsOf bs .t + 1 + 2 * allowanceOf bs
+-- the contract of `open_place`: on the bundle bs and the place p, lent the outputs old, it returned the number r and left the outputs new
+abbrev pub PlaceReturned : List ℕ → ℕ → Outputs → ℕ → Outputs → Type 0
+PlaceReturned bs p old = Returned (paramsOf bs) (sharesAt bs p) (openPlace bs p (length (old .job)) (length (old .wrong))) old
+
+-- what that tells: "What demand 3 says of opening holds wherever one job of a bundle is opened and none of the refusals ahead of 6 applies."
+abbrev pub PlaceTells : List ℕ → ℕ → Outputs → ℕ → Outputs → Type 0
+PlaceTells bs p old =
+    Tells (paramsOf bs) (allowanceOf bs) (sharesAt bs p) (PlaceClear bs p (length (old .job)) (length (old .wrong))) old
+
+-- the same for `open_run` on the run from a to b: "the sums opened as one job's shares, with the bundle's e"
+abbrev pub RunReturned : List ℕ → ℕ → ℕ → Outputs → ℕ → Outputs → Type 0
+RunReturned bs a b old =
+    Returned (paramsOf bs) (sharesOver bs a (b - a)) (openRun bs a b (length (old .job)) (length (old .wrong))) old
+
+abbrev pub RunTells : List ℕ → ℕ → ℕ → Outputs → ℕ → Outputs → Type 0
+RunTells bs a b old =
+    Tells (paramsOf bs) (allowanceOf bs) (sharesOver bs a (b - a)) (RunClear bs a b (length (old .job)) (length (old .wrong))) old

@@ -1,20 +1,23 @@
 -- A set of holders as a number: bit h − 1 of it is set for each holder h whose share passes a test, and for no other (`set-marks`,
 -- `set-clear`), so it has as many ones as shares pass (`set-ones`), whatever order the holders come in; the test of the error set is that the
--- share differs (`bit-clear`, `ones-errors`). Assumes nothing.
-use mathlib.Core.Path.{_≡_, refl, sym, _∙_, ap}
+-- share differs (`ones-errors`), so that its bits are exactly the holders whose shares differ (`bit-wrong`, `bit-right`). Assumes nothing.
+use mathlib.Core.Path.{_≡_, refl, sym, _∙_, ap, subst}
 use mathlib.Core.Bool.{Bool, true, false}
-use mathlib.Core.Logic.{_≢_}
-use mathlib.Core.List.{List, [], _∷_}
+use mathlib.Core.Logic.{_≢_, _↔_, _⊎_, inl, inr, ⊎-elim}
+use mathlib.Core.List.{List, [], _∷_, List·Memᴰ, List·Memᴰ·head, List·Memᴰ·tail, List·Memᴰ·not-nil, List·Memᴰ·cases-cons}
 use Prim.Native.Nat.{ℕ, suc, _+_, _-_, _*_, _/_, _%_, _^_, _≤_, _<_}
 use native.Mathlib.Nat.{mod-lt, zero-div, zero-add, add-comm, add-div-right, add-mul-div-right, le-dest, pow-suc}
-use native.Mathlib.Decide.{decLe}
+use native.Mathlib.Decide.{decLe, ℕ-discrete}
 use native.Mathlib.Omega.{arith}
 use lib.Pow.{pow-pos, pow-add, split, shr-shr}
 use lib.Bits.{bitOr, or-step, or-zero-r, or-block}
 use lib.Count.{ones, ones-step, ones-cat}
+use Rattle.words.specs.declared.Params.{Params}
 use Rattle.algebra.specs.Shares.{All}
+use Rattle.algebra.proofs.Shares.{all-map}
 use Rattle.codewords.specs.Codeword.{Share, Polynomial, when, differs, errors, errorSet}
-use Rattle.codewords.specs.WellFormed.{Different}
+use Rattle.codewords.specs.Demand.{Wrong, bitFor}
+use Rattle.codewords.specs.WellFormed.{Different, Holders}
 use Rattle.codewords.proofs.Without.{Marks, tally, countOf, setOf, errors-tally, errorSet-tally}
 
 -- a bit that is clear, put in: one more is set, `|` is the sum, and no other bit changes
@@ -136,3 +139,58 @@ module _ (k d : ℕ) (p : Polynomial) (ss : List Share) where
 
   pub ones-errors : All (λ (s : Share). 1 ≤ s .holder) ss → Different ss → ones (errorSet k d p ss) ≡ errors k d p ss
   ones-errors a u = rw (errorSet-tally k d p ss, errors-tally k d p ss) (set-ones (differs k d p) ss a u)
+
+-- ---- holder by holder
+
+all-in : (P : Share → Type 0) (ss : List Share) {s : Share} → All P ss → List·Memᴰ s ss → P s
+all-in P [] a m = absurd (List·Memᴰ·not-nil m)
+all-in P (r ∷ ss) {s} a m = ⊎-elim {C = P s} (λ e. subst P (sym e) (a .0)) (λ n. all-in P ss (a .1) n) (List·Memᴰ·cases-cons m)
+
+-- a share of holder i, or none
+look : (i : ℕ) (ss : List Share) → ((s : Share) × List·Memᴰ s ss × (s .holder ≡ i)) ⊎ All (λ (s : Share). i ≢ s .holder) ss
+look i [] = inr tt
+look i (s ∷ ss) = go (ℕ-discrete (s .holder) i) (look i ss)
+  where
+    go : Dec (s .holder ≡ i) → ((r : Share) × List·Memᴰ r ss × (r .holder ≡ i)) ⊎ All (λ (r : Share). i ≢ r .holder) ss →
+        ((r : Share) × List·Memᴰ r (s ∷ ss) × (r .holder ≡ i)) ⊎ All (λ (r : Share). i ≢ r .holder) (s ∷ ss)
+    go (yes e) l = inl (s, List·Memᴰ·head refl, e)
+    go (no n) (inl f) = inl (f .0, List·Memᴰ·tail (f .1), f .2)
+    go (no n) (inr a) = inr (λ e. n (sym e), a)
+
+set-bit : (b : Bool) → when b 1 ≡ 1 → b ≡ true
+set-bit true e = refl
+set-bit false e = absurd (omega arith)
+
+module _ (p : Params) (ss : List Share) (holders : Holders (p .d) ss) (q : Polynomial) where
+  abbrev x : ℕ
+  x = errorSet (p .k) (p .d) q ss
+
+  low : All (λ (s : Share). 1 ≤ s .holder) ss
+  low = all-map (λ (s : Share) h. h .0) ss (holders .0)
+
+  mark : (s : Share) → List·Memᴰ s ss → bitFor (s .holder) x ≡ when (differs (p .k) (p .d) q s) 1
+  mark s m =
+      all-in (λ (r : Share). bitFor (r .holder) x ≡ when (differs (p .k) (p .d) q r) 1) ss
+      (rw (errorSet-tally (p .k) (p .d) q ss) (set-marks (differs (p .k) (p .d) q) ss low (holders .1))) m
+
+  pub bit-wrong : (i : ℕ) → 1 ≤ i → (bitFor i x ≡ 1) ↔ Wrong p ss q i
+  bit-wrong i l = (λ e. found e (look i ss), λ w. ap (λ j. bitFor j x) (sym (w .under)) ∙ mark (w .share) (w .present) ∙ ap (λ b. when b 1) (w .differing))
+    where
+      found : bitFor i x ≡ 1 → ((s : Share) × List·Memᴰ s ss × (s .holder ≡ i)) ⊎ All (λ (s : Share). i ≢ s .holder) ss → Wrong p ss q i
+      found e (inl f) =
+          record {
+            share = f .0;
+            present = f .1;
+            under = f .2;
+            differing = set-bit (differs (p .k) (p .d) q (f .0)) (sym (mark (f .0) (f .1)) ∙ ap (λ j. bitFor j x) (f .2) ∙ e);
+          }
+      found e (inr a) =
+          let up : suc (i - 1) ≡ i = omega arith in
+          let z : bitFor i x ≡ 0 = bit-clear (p .k) (p .d) q ss (i - 1) low (holders .1) (rw up a) in
+          absurd (omega (arith, e, z))
+
+  pub bit-right : (i : ℕ) → 1 ≤ i → (bitFor i x ≡ 0) ↔ (Wrong p ss q i → ⊥)
+  bit-right i l = (λ e w. let u = bit-wrong i l .1 w in absurd (omega (arith, e, u)), λ n. clear (x / 2 ^ (i - 1)) (λ e. n (bit-wrong i l .0 e)))
+    where
+      clear : (y : ℕ) → (y % 2 ≡ 1 → ⊥) → y % 2 ≡ 0
+      clear y n = omega arith

@@ -7,6 +7,7 @@ pub mod Linear
 pub mod Opening
 pub mod Reduction
 pub mod Residue
+pub mod Tells
 pub mod Unique
 pub mod Value
 pub mod Without

@@ -1,13 +1,19 @@
--- Demand 3 of paper 01, "What is proved": what it says of an opening of shares. Assumes nothing.
-use Prim.Native.Nat.{ℕ, _≤_, _<_}
+-- Demand 3 of paper 01, "What is proved": what it says of an opening of shares, and of a call that opens them by what the call returned. Assumes
+-- nothing.
+use Prim.Native.Nat.{ℕ, _+_, _-_, _*_, _/_, _%_, _^_, _≤_, _<_}
 use mathlib.Core.Path.{_≡_}
-use mathlib.Core.List.{List}
+use mathlib.Core.Bool.{true}
+use mathlib.Core.List.{List, [], _∷_, List·Memᴰ}
+use mathlib.Core.Logic.{_⊎_, _↔_}
 use lib.Count.{ones}
-use Rattle.words.specs.Refusal.{NO-CODEWORD}
+use lib.ListN.{length, getD}
+use Rattle.words.specs.Refusal.{TOO-FEW-SHARES, NO-CODEWORD}
 use Rattle.words.specs.declared.Params.{Params}
-use Rattle.codewords.specs.Codeword.{Share, Polynomial, errors, errorSet}
-use Rattle.codewords.specs.Opening.{Opening, declines, opens}
+use Rattle.codewords.specs.Codeword.{Share, Polynomial, differs, errors, errorSet}
+use Rattle.codewords.specs.Opening.{Opening, declines, opens, faultOf, secretInto, wrongInto}
 use Rattle.codewords.specs.WellFormed.{IsPoly}
+
+-- ---- an opening
 
 -- q is "a polynomial of degree at most t" that "differs from e shares or fewer"
 pub record Within (p : Params) (e : ℕ) (ss : List Share) (q : Polynomial) : Type 0 where
@@ -25,3 +31,58 @@ pub record Decides (p : Params) (e : ℕ) (ss : List Share) (o : Opening) : Type
   pub names-few : (q : Polynomial) → o ≡ opens q → ones (errorSet (p .k) (p .d) q ss) ≤ e
   pub no-curve : NoneWithin p e ss → o ≡ declines NO-CODEWORD
   pub none-within : (c : ℕ) → o ≡ declines c → (c ≡ NO-CODEWORD) × NoneWithin p e ss
+
+-- ---- a call, by what it returned
+
+-- its two outputs: for the job's words, and for the wrong holders
+pub record Outputs : Type 0 where
+  pub job : List ℕ
+  pub wrong : List ℕ
+
+-- what the contract of such a call says: where the shares ss open to o it returns the number r, and leaves the outputs new where old were lent
+pub record Returned (p : Params) (ss : List Share) (o : Opening) (old : Outputs) (r : ℕ) (new : Outputs) : Type 0 where
+  pub fault : r ≡ faultOf o
+  pub job : new .job ≡ secretInto (old .job) o
+  pub wrong : new .wrong ≡ wrongInto (p .k) (p .d) ss (old .wrong) o
+
+-- 5 is "m is below t + 1 + 2e", m being how many shares there are
+abbrev pub EnoughShares : Params → ℕ → List Share → Type 0
+EnoughShares p e ss = p .t + 1 + 2 * e ≤ length ss
+
+abbrev pub TooFewShares : Params → ℕ → List Share → Type 0
+TooFewShares p e ss = length ss < p .t + 1 + 2 * e
+
+-- a share of holder i is present and differs from q: "A missing holder neither differs nor agrees."
+pub record Wrong (p : Params) (ss : List Share) (q : Polynomial) (i : ℕ) : Type 0 where
+  pub share : Share
+  pub present : List·Memᴰ share ss
+  pub under : share .holder ≡ i
+  pub differing : differs (p .k) (p .d) q share ≡ true
+
+-- "a set held as a 64-bit number, bit i − 1 for holder i"
+abbrev pub bitFor : ℕ → ℕ → ℕ
+bitFor i x = x / 2 ^ (i - 1) % 2
+
+-- the outputs are exact: there is one polynomial within e, the first output is its free term, and the second is one word whose bits are exactly the
+-- holders whose shares differ from it, at most e of them
+pub record Exact (p : Params) (e : ℕ) (ss : List Share) (new : Outputs) : Type 0 where
+  pub q : Polynomial
+  pub within : Within p e ss q
+  pub only : (s : Polynomial) → Within p e ss s → s ≡ q
+  pub job : new .job ≡ getD q 0 []
+  pub x : ℕ
+  pub wrong : new .wrong ≡ x ∷ []
+  pub named : (i : ℕ) → 1 ≤ i → (bitFor i x ≡ 1) ↔ Wrong p ss q i
+  pub others : (i : ℕ) → 1 ≤ i → (bitFor i x ≡ 0) ↔ (Wrong p ss q i → ⊥)
+  pub few : ones x ≤ e
+
+-- What the number r tells, Clear being that none of the refusals ahead of 5 applies. It is 0 exactly when besides there are shares enough and a
+-- polynomial within e, and then the outputs are exact; 6 exactly when there are shares enough and no such polynomial; one of these two exactly when
+-- there are shares enough; 5 exactly when there are too few. "Outputs keep their old contents" wherever it is not 0.
+pub record Tells (p : Params) (e : ℕ) (ss : List Share) (Clear : Type 0) (old : Outputs) (r : ℕ) (new : Outputs) : Type 0 where
+  pub opened : (r ≡ 0) ↔ (Clear × EnoughShares p e ss × ((q : Polynomial) × Within p e ss q))
+  pub no-curve : (r ≡ NO-CODEWORD) ↔ (Clear × EnoughShares p e ss × NoneWithin p e ss)
+  pub decided : ((r ≡ 0) ⊎ (r ≡ NO-CODEWORD)) ↔ (Clear × EnoughShares p e ss)
+  pub too-few : (r ≡ TOO-FEW-SHARES) ↔ (Clear × TooFewShares p e ss)
+  pub exact : r ≡ 0 → Exact p e ss new
+  pub kept : (r ≡ 0 → ⊥) → new ≡ old

@@ -28,13 +28,14 @@ use Rattle.codewords.specs.WellFormed.{IsElement, IsPoly}
 use Rattle.codewords.proofs.ErrorSet.{ones-errors}
 use Rattle.codewords.proofs.Value.{Rows, rows-of}
 use Rattle.codewords.proofs.Linear.{sums-is-poly, multiple-is-poly, sums-free, multiple-free}
+use Rattle.sharing.specs.Clear.{LentClear}
 use Rattle.sharing.specs.Dealing.{elementsOf, dealing, dealt, dealFault}
 use Rattle.sharing.specs.Dealt.{Dealable, dealtShares, sumsOf, multiplesOf, multiplesBy, Job, totalOf, totalShares, totalDealing}
 use Rattle.sharing.specs.Dealt.{totalSecret, Through, Present, changedIn, Changed, OpensTo}
 use Rattle.sharing.specs.Opening.{lent, opening}
 use Rattle.sharing.proofs.Elements.{elements-length}
 use Rattle.sharing.proofs.Faults.{deal-clear}
-use Rattle.sharing.proofs.Lent.{LentClear, clear-lent, clear-holders, width-take, width-drop}
+use Rattle.sharing.proofs.Lent.{clear-holders, width-take, width-drop}
 use Rattle.sharing.proofs.Opens.{lent-decides}
 use Rattle.sharing.proofs.Values.{values-length, values-width, of-dealt, errors-changed, sum-values, changed-none}
 use Rattle.sharing.proofs.Values.{multiple-values, multiple-values-by}
@@ -104,13 +105,13 @@ module _ (p : Params) (ok : paramsOk p ≡ true) (hs : List ℕ) where
     through-opens-changed ws c =
         let ss = lent (p .d) hs ws in
         let clear : LentClear p hs ws (p .d) 1 =
-        record { range = range; words-length = c .sized; out-length = refl; wrong-length = refl; rising = present .rising; width = c .width } in
+        record { params = ok; words-length = c .sized; output = refl; wrong-output = refl; rising = present .rising; width = c .width } in
         let holders = clear-holders p hs ws (p .d) 1 clear in
         let same : errorSet (p .k) (p .d) q ss ≡ changedIn p hs vs ws =
         rw (g .values) (errors-changed (p .k) (p .d) (range .d-low) (range .d-high) q (rows g) hs ws) in
         let count = ones-errors (p .k) (p .d) q ss (all-map (λ (r : Share) x. x .0) ss (holders .0)) (holders .1) in
         let o : opening p hs ws e (p .d) 1 ≡ opens q =
-        lent-decides p hs ws e (p .d) 1 (clear-lent p hs ws (p .d) 1 clear) (present .enough) .finds q
+        lent-decides p hs ws e (p .d) 1 clear (present .enough) .finds q
         (record { poly = g .poly; near = rw (← count, same) (c .few) }) in
         record {
           opened = o;

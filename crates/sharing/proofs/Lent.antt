@@ -14,7 +14,7 @@ use Rattle.words.specs.Refusal.{unless, HOLDER}
 use Rattle.words.specs.Word.{inWidth, allInWidth}
 use Rattle.words.specs.declared.Params.{Params}
 use Rattle.words.proofs.Faults.{params-clear, clear-params, length-clear, clear-length, width-clear, clear-width}
-use Rattle.words.proofs.InRange.{InRange}
+use Rattle.words.proofs.InRange.{ok-range, range-ok}
 use Rattle.words.proofs.Refusal.{first-left, first-right, first-none, unless-held, pass}
 use Rattle.words.proofs.Tests.{and-left, and-right, and-both, and-yes, and-no}
 use Rattle.algebra.specs.Shares.{All}
@@ -22,6 +22,7 @@ use Rattle.algebra.proofs.Shares.{all-map}
 use Rattle.codewords.specs.Codeword.{Share}
 use Rattle.codewords.specs.WellFormed.{InWidth, Rising, Holders}
 use Rattle.codewords.proofs.Without.{rising-different}
+use Rattle.sharing.specs.Clear.{LentClear}
 use Rattle.sharing.specs.Opening.{lent, risingTo, lentFault}
 
 pub lent-length : (d : ℕ) (hs ws : List ℕ) → length (lent d hs ws) ≡ length hs
@@ -108,14 +109,6 @@ lent-width k d (h ∷ hs) ws l e = (
 )
 
 -- lent shares with no fault so far
-pub record LentClear (p : Params) (hs ws : List ℕ) (n w : ℕ) : Type 0 where
-  pub range : InRange p
-  pub words-length : length ws ≡ length hs * p .d
-  pub out-length : n ≡ p .d
-  pub wrong-length : w ≡ 1
-  pub rising : risingTo (p .n) 0 hs ≡ true
-  pub width : allInWidth (p .k) ws ≡ true
-
 pub lent-clear : (p : Params) (hs ws : List ℕ) (n w : ℕ) → lentFault p hs ws n w ≡ 0 → LentClear p hs ws n w
 unfolding lentFault
 lent-clear p hs ws n w e₁ =
@@ -124,10 +117,10 @@ lent-clear p hs ws n w e₁ =
     let e₄ = first-right (lengthFault (p .d) n) _ e₃ in
     let e₅ = first-right (lengthFault 1 w) _ e₄ in
     record {
-      range = params-clear p (first-left (paramsFault p) _ e₁);
+      params = range-ok p (params-clear p (first-left (paramsFault p) _ e₁));
       words-length = length-clear (length hs * p .d) (length ws) (first-left (lengthFault (length hs * p .d) (length ws)) _ e₂);
-      out-length = length-clear (p .d) n (first-left (lengthFault (p .d) n) _ e₃);
-      wrong-length = length-clear 1 w (first-left (lengthFault 1 w) _ e₄);
+      output = length-clear (p .d) n (first-left (lengthFault (p .d) n) _ e₃);
+      wrong-output = length-clear 1 w (first-left (lengthFault 1 w) _ e₄);
       rising = unless-held (risingTo (p .n) 0 hs) HOLDER (omega arith) (first-left (unless (risingTo (p .n) 0 hs) HOLDER) _ e₅);
       width = width-clear (p .k) ws (first-right (unless (risingTo (p .n) 0 hs) HOLDER) _ e₅);
     }
@@ -135,12 +128,12 @@ lent-clear p hs ws n w e₁ =
 pub clear-lent : (p : Params) (hs ws : List ℕ) (n w : ℕ) → LentClear p hs ws n w → lentFault p hs ws n w ≡ 0
 unfolding lentFault
 clear-lent p hs ws n w c =
-    first-none (paramsFault p) _ (clear-params p (c .range))
+    first-none (paramsFault p) _ (clear-params p (ok-range p (c .params)))
     ∙ first-none (lengthFault (length hs * p .d) (length ws)) _ (clear-length (length hs * p .d) (length ws) (c .words-length))
-    ∙ first-none (lengthFault (p .d) n) _ (clear-length (p .d) n (c .out-length))
-    ∙ first-none (lengthFault 1 w) _ (clear-length 1 w (c .wrong-length))
+    ∙ first-none (lengthFault (p .d) n) _ (clear-length (p .d) n (c .output))
+    ∙ first-none (lengthFault 1 w) _ (clear-length 1 w (c .wrong-output))
     ∙ pass (risingTo (p .n) 0 hs) HOLDER _ (c .rising)
     ∙ clear-width (p .k) ws (c .width)
 
 pub clear-holders : (p : Params) (hs ws : List ℕ) (n w : ℕ) → LentClear p hs ws n w → Holders (p .d) (lent (p .d) hs ws)
-clear-holders p hs ws n w c = lent-holders (p .d) (p .n) hs ws (c .range .n-high) (c .rising)
+clear-holders p hs ws n w c = lent-holders (p .d) (p .n) hs ws (ok-range p (c .params) .n-high) (c .rising)

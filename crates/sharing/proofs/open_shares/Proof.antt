@@ -3,14 +3,15 @@ use native.Mathlib.Omega.{arith}
 use mathlib.Core.Path.{_≡_, refl, sym, _∙_}
 use Prim.Native.Nat.{ℕ, _≤_}
 use lib.ListN.{length}
-use Rattle.words.proofs.InRange.{range-ok}
+use Rattle.words.proofs.InRange.{InRange, ok-range}
 use Rattle.codewords.specs.Opening.{Opening, declines}
 use Rattle.codewords.proofs.Opening.{handed}
 use Rattle.level.specs.Shares.{sharesOf}
 use Rattle.decoder.proofs.Rows.{zero-shaped}
+use Rattle.sharing.specs.Clear.{LentClear}
 use Rattle.sharing.specs.Opening.{lent, lentFault, opening}
 use Rattle.sharing.proofs.Faults.{few-holders}
-use Rattle.sharing.proofs.Lent.{LentClear, lent-clear, lent-width, lent-above, lent-rising, rising-length}
+use Rattle.sharing.proofs.Lent.{lent-clear, lent-width, lent-above, lent-rising, rising-length}
 use Rattle.sharing.proofs.Loaded.{loaded}
 use Rattle.sharing.proofs.Opens.{opening-clear, opening-stopped}
 use borrow.Author.Needs.{needs}
@@ -39,11 +40,14 @@ known c =
     let s = S c in
     lent-clear (s .args .p) (s .args .holders .now) (s .args .shares .now) (length (s .args .out .now)) (length (s .args .wrong .now)) (no-fault c)
 
+range : (c : tie.Else1) → InRange (S c .args .p)
+range c = ok-range (S c .args .p) (known c .params)
+
 few : (c : tie.Else1) → length (S c .args .holders .now) ≤ 63
 few c =
     let s = S c in
     let k = known c in
-    omega (arith, rising-length (s .args .p .n) 0 (s .args .holders .now) (k .rising), few-holders (s .args .p) (k .range))
+    omega (arith, rising-length (s .args .p .n) 0 (s .args .holders .now) (k .rising), few-holders (s .args .p) (range c))
 
 -- the shares in arrays are the lent ones
 same : (c : tie.After-load-shares) → let s = S (c .before .before) in
@@ -73,7 +77,8 @@ load-holders-requires c κs = few c
 load-shares-requires : tie.Need-load-shares-requires
 load-shares-requires c κs =
     let k = known (c .before) in
-    ((k .range .d-low, k .range .d-high), few (c .before), k .words-length)
+    let i = range (c .before) in
+    ((i .d-low, i .d-high), few (c .before), k .words-length)
 
 decode-requires : tie.Need-decode-requires
 decode-requires c κs =
@@ -83,7 +88,7 @@ decode-requires c κs =
     let k = known (l .before .before) in
     let hs = s .args .holders .now in
     let ws = s .args .shares .now in (
-      range-ok p (k .range),
+      k .params,
       few (l .before .before),
       rw (same l) (lent-above (p .d) (p .n) 0 hs ws (k .rising), lent-rising (p .d) (p .n) 0 hs ws (k .rising)),
       rw (same l) (lent-width (p .k) (p .d) hs ws (k .words-length) (k .width)),
@@ -96,7 +101,8 @@ hand-out-requires : tie.Need-hand-out-requires
 hand-out-requires c κs =
     let a = c .before .before .before in
     let k = known (a .before .before .before .before .before .before) in
-    ((k .range .d-low, k .range .d-high), a .decode .ensures .1 .1 .0, k .out-length, k .wrong-length)
+    let i = range (a .before .before .before .before .before .before) in
+    ((i .d-low, i .d-high), a .decode .ensures .1 .1 .0, k .output, k .wrong-output)
 
 same-length : tie.Need-same-length
 same-length c = search needs
