@@ -1,41 +1,35 @@
--- The wrong holders as a number, by file: bit h − 1 is set for the holder h of a file whose share differs, and clear for the holder of one whose
--- share does not (`bit-of-file`). Assumes nothing.
-use mathlib.Core.Path.{_≡_}
+-- The wrong holders by file: a share of holder i is present and differs exactly when there is a file of that holder whose share differs
+-- (`wrong-file`). Assumes nothing.
+use mathlib.Core.Path.{_≡_, sym, _∙_, ap}
+use mathlib.Core.Logic.{_↔_}
 use mathlib.Core.List.{List}
-use Prim.Native.Nat.{ℕ, _-_, _/_, _%_, _^_, _≤_, _<_}
-use lib.ListN.{getD}
-use Rattle.algebra.specs.Shares.{All}
-use Rattle.algebra.proofs.Shares.{all-map, all-at}
+use Prim.Native.Nat.{ℕ}
+use native.Mathlib.Omega.{arith}
 use Rattle.galois.specs.Element.{Element}
-use Rattle.codewords.specs.Codeword.{Share, Polynomial, when, differs, errorSet}
-use Rattle.codewords.proofs.ErrorSet.{set-marks}
-use Rattle.codewords.proofs.Without.{Marks, errorSet-tally}
-use Rattle.bundle.specs.Bundle.{bundleFault, paramsOf, filesOf, holderOf}
-use Rattle.totals.proofs.Values.{value-at}
+use Rattle.codewords.specs.Codeword.{Share, Polynomial, differs}
+use Rattle.codewords.specs.Demand.{Wrong}
+use Rattle.bundle.specs.Bundle.{paramsOf, filesOf}
 use Rattle.archive.specs.Archive.{shareBy, sharesBy}
-use Rattle.archive.proofs.Shares.{shares-count, shares-holders}
+use Rattle.archive.specs.Clear.{WrongFile}
+use Rattle.archive.proofs.Shares.{values-in, in-values}
 
-module _ (bs : List ℕ) (z : bundleFault bs ≡ 0) (w : ℕ → Element) (p : Polynomial) where
-  abbrev k : ℕ
-  k = paramsOf bs .k
+pub wrong-file : (bs : List ℕ) (w : ℕ → Element) (q : Polynomial) (i : ℕ) → Wrong (paramsOf bs) (sharesBy bs w) q i ↔ WrongFile bs w q i
+wrong-file bs w q i = (file, share)
+  where
+    file : Wrong (paramsOf bs) (sharesBy bs w) q i → WrongFile bs w q i
+    file x =
+        let r = values-in (shareBy bs w) 0 (filesOf bs) (x .present) in (
+          r .0,
+          omega (arith, r .2),
+          ap (λ (s : Share). s .holder) (sym (r .3)) ∙ x .under,
+          ap (differs (paramsOf bs .k) (paramsOf bs .d) q) (sym (r .3)) ∙ x .differing,
+        )
 
-  abbrev d : ℕ
-  d = paramsOf bs .d
-
-  abbrev ss : List Share
-  ss = sharesBy bs w
-
-  low : All (λ (s : Share). 1 ≤ s .holder) ss
-  low = all-map (λ (s : Share) x. x .0) ss (shares-holders bs z w .0)
-
-  marks : Marks (errorSet k d p ss) (differs k d p) ss
-  marks = rw (errorSet-tally k d p ss) (set-marks (differs k d p) ss low (shares-holders bs z w .1))
-
-  pub bit-of-file : (f : ℕ) → f < filesOf bs →
-      errorSet (paramsOf bs .k) (paramsOf bs .d) p (sharesBy bs w) / 2 ^ (holderOf bs f - 1) % 2
-      ≡ when (differs (paramsOf bs .k) (paramsOf bs .d) p (shareBy bs w f)) 1
-  bit-of-file f l =
-      let s = shareBy bs w f in
-      let e : getD ss f s ≡ s = value-at (shareBy bs w) (filesOf bs) f s l in
-      rw e at
-      (all-at (λ (r : Share). errorSet k d p ss / 2 ^ (r .holder - 1) % 2 ≡ when (differs k d p r) 1) ss f s marks (rw (shares-count bs w) l))
+    share : WrongFile bs w q i → Wrong (paramsOf bs) (sharesBy bs w) q i
+    share y =
+        record {
+          share = shareBy bs w (y .0);
+          present = in-values (shareBy bs w) 0 (filesOf bs) (y .0) (omega arith) (omega (arith, y .1));
+          under = y .2;
+          differing = y .3;
+        }

@@ -1,9 +1,11 @@
 -- The shares present in an accepted bundle: one for each file, under holders that rise from 1 to n; and words in width where none is wide.
 -- Assumes nothing.
-use mathlib.Core.Path.{_≡_}
+use mathlib.Core.Path.{_≡_, ap}
 use mathlib.Core.Bool.{true}
-use mathlib.Core.List.{List}
+use mathlib.Core.List.{List, List·Memᴰ, List·Memᴰ·head, List·Memᴰ·tail, List·Memᴰ·not-nil, List·Memᴰ·cases-cons}
+use mathlib.Core.Logic.{_⊎_, inl, inr}
 use Prim.Native.Nat.{ℕ, zero, suc, _+_, _≤_, _<_}
+use native.Mathlib.Decide.{ℕ-discrete}
 use native.Mathlib.Omega.{arith}
 use lib.ListN.{length}
 use Rattle.words.specs.Word.{allInWidth}
@@ -33,6 +35,26 @@ pub values-all : {A : Type 0} (P : A → Type 0) (f : ℕ → A) (i n : ℕ) →
 unfolding valuesFrom
 values-all P f i zero h = tt
 values-all P f i (suc n) h = (h i (omega arith) (omega arith), values-all P f (suc i) n (λ j l u. h j (omega arith) (omega arith)))
+
+-- what is in the list is one of the values
+pub values-in : {A : Type 0} (f : ℕ → A) (i n : ℕ) {x : A} → List·Memᴰ x (valuesFrom f i n) → (j : ℕ) × (i ≤ j) × (j < i + n) × (x ≡ f j)
+unfolding valuesFrom
+values-in f i zero m = absurd (List·Memᴰ·not-nil m)
+values-in f i (suc n) {x} m = go (values-in f (suc i) n) (List·Memᴰ·cases-cons m)
+  where
+    go : (List·Memᴰ x (valuesFrom f (suc i) n) → (j : ℕ) × (suc i ≤ j) × (j < suc i + n) × (x ≡ f j)) →
+        (x ≡ f i) ⊎ List·Memᴰ x (valuesFrom f (suc i) n) → (j : ℕ) × (i ≤ j) × (j < i + suc n) × (x ≡ f j)
+    go later (inl e) = (i, omega arith, omega arith, e)
+    go later (inr t) = let r = later t in (r .0, omega (arith, r .1), omega (arith, r .2), r .3)
+
+pub in-values : {A : Type 0} (f : ℕ → A) (i n j : ℕ) → i ≤ j → j < i + n → List·Memᴰ (f j) (valuesFrom f i n)
+unfolding valuesFrom
+in-values f i zero j l u = absurd (omega arith)
+in-values f i (suc n) j l u =
+    elim (ℕ-discrete j i) [
+      | yes e ↦ List·Memᴰ·head (ap f e)
+      | no m ↦ List·Memᴰ·tail (in-values f (suc i) n j (omega arith) (omega arith))
+    ]
 
 pub shares-count : (bs : List ℕ) (w : ℕ → Element) → length (sharesBy bs w) ≡ filesOf bs
 shares-count bs w = values-count (shareBy bs w) 0 (filesOf bs)

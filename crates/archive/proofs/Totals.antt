@@ -15,14 +15,16 @@ use lib.Signed.{_≤ℤ_}
 use Rattle.words.specs.Signed.{meaning, sumOfMeanings}
 use Rattle.words.specs.Word.{allInWidth}
 use Rattle.words.proofs.InRange.{InRange}
+use Rattle.words.proofs.Tests.{not-held}
 use Rattle.algebra.specs.Shares.{All, bit, count}
 use Rattle.galois.specs.Element.{Element, sum, zeroE, point, same}
 use Rattle.galois.proofs.Elements.{same-eq}
 use Rattle.codewords.specs.Codeword.{Share, Polynomial, value, when, differs, errors, errorSet}
-use Rattle.codewords.specs.Demand.{Decides}
+use Rattle.codewords.specs.Demand.{Decides, bitFor}
 use Rattle.codewords.specs.Linear.{sums}
 use Rattle.codewords.specs.Opening.{Opening, opens, secretInto, wrongInto}
 use Rattle.codewords.specs.WellFormed.{IsPoly}
+use Rattle.codewords.proofs.ErrorSet.{bit-right}
 use Rattle.codewords.proofs.Linear.{sums-is-poly, dealt-sum, sums-free}
 use Rattle.codewords.proofs.Value.{rows-of, free-element, value-element, right-value, value-right}
 use Rattle.codewords.proofs.Without.{none-errors}
@@ -41,9 +43,9 @@ use Rattle.archive.specs.Archive.{shareBy, sharesBy, sharesOver, openPla
 use Rattle.archive.specs.Clear.{PlaceClear, RunClear, Enough}
 use Rattle.archive.specs.Dealt.{Polys, freeTerms, sumPolys, sumPoly, sumOfJobs, holdsDealt, changedFiles, named}
 use Rattle.archive.specs.Dealt.{BundleOpensTo, PlaceOpensTo, RunOpensTo}
-use Rattle.archive.proofs.Names.{bit-of-file}
+use Rattle.archive.proofs.Names.{wrong-file}
 use Rattle.archive.proofs.Opens.{place-decides, run-decides, run-opened}
-use Rattle.archive.proofs.Shares.{values-all, of-width}
+use Rattle.archive.proofs.Shares.{values-all, holder-range, shares-holders, of-width}
 use Rattle.archive.proofs.Sums.{sums-poly, value-sums, free-sums}
 
 range : (bs : List ℕ) → bundleFault bs ≡ 0 → InRange (paramsOf bs)
@@ -98,14 +100,10 @@ module _ (bs : List ℕ) (w : ℕ → Element) (q : Polynomial) where
 
   none-named : bundleFault bs ≡ 0 → errorSet k d q (sharesBy bs w) ≡ 0 → (f : ℕ) → f < filesOf bs → Right f
   none-named z e f l =
-      let j = holderOf bs f - 1 in
-      right-value k d q (shareBy bs w f)
-      (clear (differs k d q (shareBy bs w f))
-      (sym (bit-of-file bs z w q f l) ∙ ap (λ (n : ℕ). n / 2 ^ j % 2) e ∙ ap (λ (n : ℕ). n % 2) (zero-div (2 ^ j))))
-    where
-      clear : (b : Bool) → when b 1 ≡ 0 → b ≡ false
-      clear true c = absurd (omega arith)
-      clear false c = refl
+      let i = holderOf bs f in
+      let clear : bitFor i (errorSet k d q (sharesBy bs w)) ≡ 0 = ap (bitFor i) e ∙ ap (λ (n : ℕ). n % 2) (zero-div (2 ^ (i - 1))) in
+      let right = bit-right (paramsOf bs) (sharesBy bs w) (shares-holders bs z w) q i (holder-range bs z f l .0) .0 clear in
+      right-value k d q (shareBy bs w f) (not-held (differs k d q (shareBy bs w f)) (λ y. right (wrong-file bs w q i .1 (f, l, refl, y))))
 
   all-right : (o : Opening) → Decides (paramsOf bs) (allowanceOf bs) (sharesBy bs w) o → IsPoly k d (paramsOf bs .t) q →
       (s : Element) → getD q 0 [] ≡ s → ((f : ℕ) → f < filesOf bs → Right f) → BundleOpensTo bs (sharesBy bs w) o q s 0

@@ -5,9 +5,11 @@ use mathlib.Core.Path.{_≡_}
 use mathlib.Core.Bool.{true}
 use mathlib.Core.List.{List}
 use lib.ListN.{length}
+use Rattle.galois.specs.Element.{Element}
+use Rattle.codewords.specs.Codeword.{Polynomial, differs}
 use Rattle.codewords.specs.Demand.{Outputs, Returned, Tells}
-use Rattle.bundle.specs.Bundle.{bundleHeading, bundleFault, paramsOf, allowanceOf, filesOf}
-use Rattle.archive.specs.Archive.{sharesAt, sharesOver, placeInWidth, filesInWidth, openPlace, openRun}
+use Rattle.bundle.specs.Bundle.{bundleHeading, bundleFault, paramsOf, allowanceOf, filesOf, holderOf}
+use Rattle.archive.specs.Archive.{shareBy, sharesAt, sharesOver, placeInWidth, filesInWidth, openPlace, openRun}
 
 -- of the job at place p
 pub record PlaceClear (bs : List ℕ) (p n w : ℕ) : Type 0 where
@@ -47,3 +49,8 @@ RunReturned bs a b old =
 abbrev pub RunTells : List ℕ → ℕ → ℕ → Outputs → ℕ → Outputs → Type 0
 RunTells bs a b old =
     Tells (paramsOf bs) (allowanceOf bs) (sharesOver bs a (b - a)) (RunClear bs a b (length (old .job)) (length (old .wrong))) old
+
+-- a wrong holder by its file: one of holder i, whose share differs from q
+abbrev pub WrongFile : List ℕ → (ℕ → Element) → Polynomial → ℕ → Type 0
+WrongFile bs w q i =
+    (f : ℕ) × (f < filesOf bs) × (holderOf bs f ≡ i) × (differs (paramsOf bs .k) (paramsOf bs .d) q (shareBy bs w f) ≡ true)

@@ -146,13 +146,15 @@ all-in : (P : Share → Type 0) (ss : List Share) {s : Share} → All P ss → L
 all-in P [] a m = absurd (List·Memᴰ·not-nil m)
 all-in P (r ∷ ss) {s} a m = ⊎-elim {C = P s} (λ e. subst P (sym e) (a .0)) (λ n. all-in P ss (a .1) n) (List·Memᴰ·cases-cons m)
 
--- a share of holder i, or none
-look : (i : ℕ) (ss : List Share) → ((s : Share) × List·Memᴰ s ss × (s .holder ≡ i)) ⊎ All (λ (s : Share). i ≢ s .holder) ss
+-- a share of holder i is present, or none
+abbrev Has : ℕ → List Share → Type 0
+Has i ss = (s : Share) × List·Memᴰ s ss × (s .holder ≡ i)
+
+look : (i : ℕ) (ss : List Share) → Has i ss ⊎ All (λ (s : Share). i ≢ s .holder) ss
 look i [] = inr tt
 look i (s ∷ ss) = go (ℕ-discrete (s .holder) i) (look i ss)
   where
-    go : Dec (s .holder ≡ i) → ((r : Share) × List·Memᴰ r ss × (r .holder ≡ i)) ⊎ All (λ (r : Share). i ≢ r .holder) ss →
-        ((r : Share) × List·Memᴰ r (s ∷ ss) × (r .holder ≡ i)) ⊎ All (λ (r : Share). i ≢ r .holder) (s ∷ ss)
+    go : Dec (s .holder ≡ i) → Has i ss ⊎ All (λ (r : Share). i ≢ r .holder) ss → Has i (s ∷ ss) ⊎ All (λ (r : Share). i ≢ r .holder) (s ∷ ss)
     go (yes e) l = inl (s, List·Memᴰ·head refl, e)
     go (no n) (inl f) = inl (f .0, List·Memᴰ·tail (f .1), f .2)
     go (no n) (inr a) = inr (λ e. n (sym e), a)
@@ -174,9 +176,12 @@ module _ (p : Params) (ss : List Share) (holders : Holders (p .d) ss) (q : Polyn
       (rw (errorSet-tally (p .k) (p .d) q ss) (set-marks (differs (p .k) (p .d) q) ss low (holders .1))) m
 
   pub bit-wrong : (i : ℕ) → 1 ≤ i → (bitFor i x ≡ 1) ↔ Wrong p ss q i
-  bit-wrong i l = (λ e. found e (look i ss), λ w. ap (λ j. bitFor j x) (sym (w .under)) ∙ mark (w .share) (w .present) ∙ ap (λ b. when b 1) (w .differing))
+  bit-wrong i l = (λ e. found e (look i ss), set)
     where
-      found : bitFor i x ≡ 1 → ((s : Share) × List·Memᴰ s ss × (s .holder ≡ i)) ⊎ All (λ (s : Share). i ≢ s .holder) ss → Wrong p ss q i
+      set : Wrong p ss q i → bitFor i x ≡ 1
+      set w = ap (λ j. bitFor j x) (sym (w .under)) ∙ mark (w .share) (w .present) ∙ ap (λ b. when b 1) (w .differing)
+
+      found : bitFor i x ≡ 1 → Has i ss ⊎ All (λ (s : Share). i ≢ s .holder) ss → Wrong p ss q i
       found e (inl f) =
           record {
             share = f .0;
