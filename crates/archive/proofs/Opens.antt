@@ -63,6 +63,9 @@ module _ (bs : List ℕ) (p n w : ℕ) where
       subst (Decides (paramsOf bs) (allowanceOf bs) (sharesAt bs p)) (sym place-is)
       (call-decides (paramsOf bs) (allowanceOf bs) (sharesAt bs p) place-ahead c (rw (shares-count bs (λ f. wordsOf bs f p)) m))
 
+-- 0 tells that the bundle is accepted, the outputs have d words and one, the place is there with its words in width, and the files are enough; that
+-- the first output is then the job of the one polynomial of degree at most t within e, and the second has exactly the holders of the files that differ
+-- from it. 6 tells the same of the bundle and the outputs' lengths, and that there is no such polynomial.
 pub place-tells : (bs : List ℕ) (p : ℕ) (old : Outputs) (r : ℕ) (new : Outputs) → PlaceReturned bs p old r new → PlaceTells bs p old r new
 place-tells bs p old r new g =
     let n = length (old .job) in
@@ -113,6 +116,7 @@ module _ (bs : List ℕ) (a b n w : ℕ) where
       let x = call-opened (paramsOf bs) (allowanceOf bs) (sharesOver bs a (b - a)) run-ahead q (sym run-is ∙ e) in
       (x .0, rw (shares-count bs (λ f. runTotal bs f a (b - a))) at (x .1))
 
+-- the same of the run from a to b, with each file's sum for its share
 pub run-tells : (bs : List ℕ) (a b : ℕ) (old : Outputs) (r : ℕ) (new : Outputs) → RunReturned bs a b old r new → RunTells bs a b old r new
 run-tells bs a b old r new g =
     let n = length (old .job) in

@@ -49,6 +49,9 @@ pub lent-decides : (p : Params) (hs ws : List ℕ) (e n w : ℕ) → LentClear p
 unfolding opening
 lent-decides p hs ws e n w c m = call-decides p e (lent (p .d) hs ws) (lent-ahead p hs ws n w) c (rw (lent-length (p .d) hs ws) m)
 
+-- 0 tells that the parameters are in their ranges, all lengths right, the holders rising from 1 to n, the words in width, and the shares enough; that
+-- the first output is then the job of the one polynomial of degree at most t within e, and the second has exactly the holders of the lent shares that
+-- differ from it. 6 tells the same of what was lent, and that there is no such polynomial.
 pub shares-tell : (p : Params) (hs ws : List ℕ) (e : ℕ) (old : Outputs) (r : ℕ) (new : Outputs) →
     SharesReturned p hs ws e old r new → SharesTell p hs ws e old r new
 unfolding opening
