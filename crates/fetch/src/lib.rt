@@ -55,7 +55,7 @@ pub fn run_fault(h: Heading, a: usize, b: usize) -> u8
 }
 
 // Where file f of a bundle stands, by its first heading.
-fn file_at(h: Heading, f: usize) -> usize
+pub fn file_at(h: Heading, f: usize) -> usize
     requires { ⌜ (h .params .d ≤ 6) × (h .jobs ≤ 1000) × (f ≤ 63) ⌝ }
     ensures { λ r. ⌜ r ≡ orderSize + f * fileSize h ⌝ }
 {

@@ -1,0 +1,3 @@
+pub mod Told
+pub mod Steps
+pub mod Parts
