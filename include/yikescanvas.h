@@ -31,9 +31,9 @@ enum {
     YIKES_HOLDER = 4,         /* a holder is not from 1 to n, holders do not strictly rise, or the holder named has no file in the bundle */
     YIKES_TOO_FEW_SHARES = 5, /* fewer than t + 1 + 2e shares */
     YIKES_NO_CODEWORD = 6,    /* no polynomial of degree t or less differs from e shares or fewer */
-    YIKES_MALFORMED = 7,      /* bytes that are no bundle, or job numbers that do not strictly rise */
+    YIKES_MALFORMED = 7,      /* bytes that are no bundle, file or record, or job numbers that do not strictly rise */
     YIKES_MISMATCHED = 8,     /* a file does not belong with the first */
-    YIKES_OUT_OF_RANGE = 9    /* a place that is not there, or a run from a to b with a above b, or b above the number of jobs */
+    YIKES_OUT_OF_RANGE = 9    /* a place or a file that is not there, or a run from a to b with a above b, or b above the number of jobs */
 };
 
 /* What every line of yikes_list_line fits into, with its line feed. */
@@ -42,6 +42,23 @@ enum { YIKES_LINE = 400 };
 /* The bytes of an order, and of a holder's file with so many jobs. A bundle has the bytes of an order and of its files. */
 enum { YIKES_ORDER_SIZE = 7 };
 #define YIKES_FILE_SIZE(d, jobs) ((size_t)23 + (size_t)(jobs) * ((size_t)14 + (size_t)8 * (size_t)(d)))
+
+/* What yikes_describe tells, by its place in the output, and how many words that is. */
+enum {
+    YIKES_ABOUT_E = 0,         /* the allowance */
+    YIKES_ABOUT_K = 1,         /* the book */
+    YIKES_ABOUT_D = 2,
+    YIKES_ABOUT_N = 3,
+    YIKES_ABOUT_T = 4,
+    YIKES_ABOUT_ARCHIVE = 5,   /* the archive number */
+    YIKES_ABOUT_JOBS = 6,      /* the jobs of each file */
+    YIKES_ABOUT_FILES = 7,     /* the files */
+    YIKES_ABOUT_FILE_SIZE = 8, /* the bytes of each file */
+    YIKES_ABOUT = 9
+};
+
+/* The kinds of records. */
+enum { YIKES_HEADING = 1, YIKES_JOB = 2, YIKES_ORDER = 16 };
 
 /* ---- elements and shares, as words */
 
@@ -84,10 +101,30 @@ uint8_t yikes_write_order(uint8_t e, uint8_t *out, size_t out_length);
  * YIKES_ORDER_SIZE bytes more than files. Files that are not accepted decline with the fault of the bundle that would be written; then 2. */
 uint8_t yikes_write_bundle(uint8_t e, const uint8_t *files, size_t files_length, uint8_t *out, size_t out_length);
 
+/* Whether the bytes are one file and nothing more: what yikes_write_file writes, whatever its words. Gives 7, 1, 4 by its first fault. */
+uint8_t yikes_check_file(const uint8_t *file, size_t file_length);
+
+/* Reads the record at a cursor, a position in the bytes, and looks at nothing else: step has exactly four words, 0 for a record or 1 for the end;
+ * the kind; where the body starts; its length in bytes. The next cursor is where the body ends, the third word and the fourth together. At the
+ * end, where the cursor is the length of the bytes, the words are 1, 0, the cursor, 0. Gives 2, and 7 where the bytes end inside the record or
+ * before the cursor, the kind is unknown, or the length is one that its kind has in no book. */
+uint8_t yikes_read(const uint8_t *bytes, size_t bytes_length, size_t cursor, uint64_t *step, size_t step_length);
+
 /* ---- calls on a bundle: its first fault, 7, 1, 4 or 8, comes before anything else */
 
 /* Whether the bundle is accepted. */
 uint8_t yikes_accept(const uint8_t *bundle, size_t bundle_length);
+
+/* What the other calls on the bundle need to know: about has exactly YIKES_ABOUT words, the allowance, k, d, n, t, the archive number, the
+ * jobs, the files and the bytes of a file. Then gives 2. */
+uint8_t yikes_describe(const uint8_t *bundle, size_t bundle_length, uint64_t *about, size_t about_length);
+
+/* The number of the job at a place, 0 first: number has exactly one word. Then gives 2, 9. */
+uint8_t yikes_job_number(const uint8_t *bundle, size_t bundle_length, size_t place, uint64_t *number, size_t number_length);
+
+/* The holder of a file, 0 first, and where the file stands in the bundle: part has exactly three words, the holder, the offset and the length in
+ * bytes. Holders rise from file to file. Then gives 2, and 9 for an index that is not there. */
+uint8_t yikes_file(const uint8_t *bundle, size_t bundle_length, size_t index, uint64_t *part, size_t part_length);
 
 /* Opens the job at a place, 0 first. out has d words; wrong has exactly one word, the set of the holders whose shares are wrong.
  * Then gives 2, 9, 3, 5, 6. */

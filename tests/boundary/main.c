@@ -69,6 +69,9 @@ static int now_bytes(const void *bytes, size_t n) {
 #define BOOK 3, 2, 3
 #define OUT o.words, 2
 #define SECOND o.second, 1
+#define ABOUT o.words, YIKES_ABOUT
+#define PART o.words, 3
+#define STEP o.words, 4
 
 /* Parameters that are out of their ranges, each in one number. */
 static const struct {
@@ -324,6 +327,12 @@ static void refuses(uint8_t number, const uint8_t *bytes, size_t n) {
     DECLINES(number, yikes_fetch_body(bytes, n, 1, 0, o.second, 2));
     DECLINES(number, yikes_fetch_body(bytes, n, 0, SIZE_MAX, NULL, 0));
     DECLINES(number, yikes_fetch_fault(bytes, n, 1, 0));
+    DECLINES(number, yikes_describe(bytes, n, ABOUT));
+    DECLINES(number, yikes_describe(bytes, n, NULL, 0));
+    DECLINES(number, yikes_job_number(bytes, n, 0, SECOND));
+    DECLINES(number, yikes_job_number(bytes, n, SIZE_MAX, NULL, 0));
+    DECLINES(number, yikes_file(bytes, n, 0, PART));
+    DECLINES(number, yikes_file(bytes, n, SIZE_MAX, NULL, 0));
     DECLINES(number, yikes_list_line(bytes, n, 0, o.bytes, YIKES_LINE, SECOND));
     DECLINES(number, yikes_list_line(bytes, n, SIZE_MAX, NULL, 0, NULL, 0));
 }
@@ -350,6 +359,141 @@ static void faults(void) {
     refuses(YIKES_MISMATCHED, changed(13 + FILE_BYTES, 4), 256);
     refuses(YIKES_MALFORMED, changed(66, 10), 256);
     refuses(YIKES_MISMATCHED, changed(36 + FILE_BYTES, 9), 256);
+}
+
+/* What a caller must know of a bundle: the nine words, job numbers, and files, each a file by itself. */
+static void describing(void) {
+    const uint64_t about[YIKES_ABOUT] = {1, 3, 2, 3, 0, 7, 2, 3, FILE_BYTES};
+    const uint64_t lone[YIKES_ABOUT] = {255, 64, 6, 63, 62, UINT64_MAX, 0, 1, 23};
+    const size_t n = sizeof bundle;
+    uint8_t file[23], small[30];
+    uint64_t part[3];
+    size_t i;
+
+    GIVES(yikes_describe(bundle, n, ABOUT), now_holds(about, YIKES_ABOUT, NULL, 0));
+    DECLINES(YIKES_LENGTH, yikes_describe(bundle, n, o.words, YIKES_ABOUT - 1));
+    DECLINES(YIKES_LENGTH, yikes_describe(bundle, n, o.words, YIKES_ABOUT + 1));
+    DECLINES(YIKES_LENGTH, yikes_describe(bundle, n, NULL, 0));
+    DECLINES(YIKES_LENGTH, yikes_describe(bundle, n, o.words, HUGE_LENGTH));
+    /* the largest numbers, and no jobs */
+    check(yikes_write_file(64, 6, 63, 62, 63, UINT64_MAX, NULL, 0, NULL, 0, file, 23) == YIKES_OK, __LINE__, "write_file");
+    check(yikes_write_bundle(255, file, 23, small, 30) == YIKES_OK, __LINE__, "write_bundle");
+    GIVES(yikes_describe(small, 30, ABOUT), now_holds(lone, YIKES_ABOUT, NULL, 0));
+    DECLINES(YIKES_OUT_OF_RANGE, yikes_job_number(small, 30, 0, SECOND));
+
+    for (i = 0; i < 2; i++) {
+        GIVES(yikes_job_number(bundle, n, i, SECOND), now_holds(NULL, 0, &numbers[i], 1));
+    }
+    DECLINES(YIKES_OUT_OF_RANGE, yikes_job_number(bundle, n, 2, SECOND));
+    DECLINES(YIKES_OUT_OF_RANGE, yikes_job_number(bundle, n, SIZE_MAX, SECOND));
+    DECLINES(YIKES_LENGTH, yikes_job_number(bundle, n, 2, NULL, 0));
+    DECLINES(YIKES_LENGTH, yikes_job_number(bundle, n, 0, o.second, 2));
+    DECLINES(YIKES_LENGTH, yikes_job_number(bundle, n, SIZE_MAX, o.second, HUGE_LENGTH));
+
+    for (i = 0; i < 3; i++) {
+        part[0] = i + 1, part[1] = 7 + i * FILE_BYTES, part[2] = FILE_BYTES;
+        GIVES(yikes_file(bundle, n, i, PART), now_holds(part, 3, NULL, 0));
+        GIVES(yikes_check_file(bundle + part[1], part[2]), untouched());
+    }
+    DECLINES(YIKES_OUT_OF_RANGE, yikes_file(bundle, n, 3, PART));
+    DECLINES(YIKES_OUT_OF_RANGE, yikes_file(bundle, n, SIZE_MAX, PART));
+    DECLINES(YIKES_LENGTH, yikes_file(bundle, n, 3, o.words, 2));
+    DECLINES(YIKES_LENGTH, yikes_file(bundle, n, 0, o.words, 4));
+    DECLINES(YIKES_LENGTH, yikes_file(bundle, n, 3, NULL, 0));
+    DECLINES(YIKES_LENGTH, yikes_file(bundle, n, SIZE_MAX, o.words, HUGE_LENGTH));
+}
+
+/* The number of the first file with one byte changed. */
+static uint8_t file_changed(size_t at, uint8_t value) {
+    uint8_t file[FILE_BYTES];
+    memcpy(file, files, FILE_BYTES);
+    file[at] = value;
+    return yikes_check_file(file, FILE_BYTES);
+}
+
+/* One file by itself. */
+static void lone_files(void) {
+    const uint8_t *file = files;
+    uint8_t empty[23], wide[FILE_BYTES];
+    size_t i;
+
+    GIVES(yikes_check_file(file, FILE_BYTES), untouched());
+    DECLINES(YIKES_MALFORMED, yikes_check_file(NULL, 0));
+    for (i = 0; i < FILE_BYTES; i++) {
+        DECLINES(YIKES_MALFORMED, yikes_check_file(file, i));
+    }
+    DECLINES(YIKES_MALFORMED, yikes_check_file(file, FILE_BYTES + 1));
+    DECLINES(YIKES_MALFORMED, yikes_check_file(files, sizeof files));
+    DECLINES(YIKES_MALFORMED, yikes_check_file(bundle, sizeof bundle));
+    DECLINES(YIKES_PARAMETERS, file_changed(6, 0));
+    DECLINES(YIKES_PARAMETERS, file_changed(6, 65));
+    DECLINES(YIKES_PARAMETERS, file_changed(7, 7));
+    DECLINES(YIKES_PARAMETERS, file_changed(8, 4));
+    DECLINES(YIKES_PARAMETERS, file_changed(9, 3));
+    DECLINES(YIKES_PARAMETERS, file_changed(20, 4));
+    DECLINES(YIKES_HOLDER, file_changed(10, 0));
+    DECLINES(YIKES_HOLDER, file_changed(10, 4));
+    DECLINES(YIKES_MALFORMED, file_changed(4, 2));
+    DECLINES(YIKES_MALFORMED, file_changed(19, 1));
+    DECLINES(YIKES_MALFORMED, file_changed(19, 3));
+    DECLINES(YIKES_MALFORMED, file_changed(59, 10));
+    GIVES(file_changed(59, 12), untouched());
+    check(yikes_write_file(BOOK, 0, 3, 7, NULL, 0, NULL, 0, empty, 23) == YIKES_OK, __LINE__, "write_file");
+    GIVES(yikes_check_file(empty, 23), untouched());
+    /* a wide word is no fault of a file */
+    memcpy(wide, file, FILE_BYTES);
+    wide[FILE_BYTES - 1] = 255;
+    GIVES(yikes_check_file(wide, FILE_BYTES), untouched());
+}
+
+/* Reads by a cursor, a record at a time. */
+static void reading(void) {
+    const uint64_t kinds[10] = {YIKES_ORDER,   YIKES_HEADING, YIKES_JOB, YIKES_JOB,     YIKES_HEADING,
+                                YIKES_JOB,     YIKES_JOB,     YIKES_HEADING, YIKES_JOB, YIKES_JOB};
+    const uint64_t end[4] = {1, 0, 256, 0}, nothing[4] = {1, 0, 0, 0};
+    const size_t n = sizeof bundle;
+    uint64_t step[4];
+    uint8_t record[80];
+    size_t cursor = 0, i;
+
+    for (i = 0; i < 10; i++) {
+        step[0] = 0, step[1] = kinds[i], step[2] = cursor + 6;
+        step[3] = kinds[i] == YIKES_ORDER ? 1 : kinds[i] == YIKES_HEADING ? 17 : 24;
+        GIVES(yikes_read(bundle, n, cursor, STEP), now_holds(step, 4, NULL, 0));
+        cursor = (size_t)(o.words[2] + o.words[3]);
+        DECLINES(YIKES_MALFORMED, yikes_read(bundle, cursor - 1, (size_t)step[2] - 6, STEP));
+    }
+    check(cursor == n, __LINE__, "the last record ends where the bytes do");
+    GIVES(yikes_read(bundle, n, n, STEP), now_holds(end, 4, NULL, 0));
+    GIVES(yikes_read(NULL, 0, 0, STEP), now_holds(nothing, 4, NULL, 0));
+    DECLINES(YIKES_MALFORMED, yikes_read(NULL, 0, 1, STEP));
+    DECLINES(YIKES_MALFORMED, yikes_read(bundle, n, n + 1, STEP));
+    DECLINES(YIKES_MALFORMED, yikes_read(bundle, n, n - 1, STEP));
+    DECLINES(YIKES_MALFORMED, yikes_read(bundle, n, SIZE_MAX, STEP));
+    DECLINES(YIKES_MALFORMED, yikes_read(bundle, n, SIZE_MAX - 5, STEP));
+    DECLINES(YIKES_MALFORMED, yikes_read(bundle, n, 1, STEP));
+    DECLINES(YIKES_MALFORMED, yikes_read(changed(0, 4), n, 0, STEP));
+    DECLINES(YIKES_MALFORMED, yikes_read(changed(3, 1), n, 0, STEP));
+    DECLINES(YIKES_MALFORMED, yikes_read(changed(4, 3), n, 0, STEP));
+    DECLINES(YIKES_MALFORMED, yikes_read(changed(5, 1), n, 0, STEP));
+    DECLINES(YIKES_LENGTH, yikes_read(bundle, n, n + 1, o.words, 3));
+    DECLINES(YIKES_LENGTH, yikes_read(bundle, n, 0, o.words, 5));
+    DECLINES(YIKES_LENGTH, yikes_read(bundle, n, SIZE_MAX, NULL, 0));
+    DECLINES(YIKES_LENGTH, yikes_read(NULL, 0, 1, o.words, HUGE_LENGTH));
+    /* a book that is out of its range is read */
+    step[0] = 0, step[1] = YIKES_HEADING, step[2] = 13, step[3] = 17;
+    GIVES(yikes_read(changed(13, 0), n, 7, STEP), now_holds(step, 4, NULL, 0));
+    /* the lengths that a job has in some book, and no others */
+    for (i = 0; i <= 76; i++) {
+        memset(record, 0, sizeof record);
+        record[0] = (uint8_t)i, record[4] = YIKES_JOB;
+        if (i == 26 || i == 34 || i == 42 || i == 50 || i == 58) {
+            step[0] = 0, step[1] = YIKES_JOB, step[2] = 6, step[3] = i - 2;
+            GIVES(yikes_read(record, sizeof record, 0, STEP), now_holds(step, 4, NULL, 0));
+        } else {
+            DECLINES(YIKES_MALFORMED, yikes_read(record, sizeof record, 0, STEP));
+        }
+    }
 }
 
 static void openings(void) {
@@ -447,6 +591,9 @@ int main(void) {
     readings();
     writing();
     faults();
+    describing();
+    lone_files();
+    reading();
     openings();
     printf("%lu checks%s\n", checks, failures == 0 ? "" : ", of which some failed");
     return failures == 0 ? 0 : 1;

@@ -15,7 +15,7 @@ enum { K = 64, D = 6, N = 63, T = 20, E = 21, JOBS = 3, STACK = 1 << 20, FILE_BY
 #define BOOK K, D, N, T
 #define JOB_WORDS (JOBS * D)
 
-static uint64_t job[D], coefficients[T * D], shares[N * D], holders[N], words[N][JOB_WORDS], out[D], wrong[2], dealt[N * D];
+static uint64_t job[D], coefficients[T * D], shares[N * D], holders[N], words[N][JOB_WORDS], out[YIKES_ABOUT], wrong[2], dealt[N * D];
 static const uint64_t numbers[JOBS] = {1, 20, 300};
 static uint8_t files[N * FILE_BYTES], bundle[7 + N * FILE_BYTES], copy[sizeof bundle], line[YIKES_LINE], order[7];
 
@@ -30,7 +30,12 @@ static void read_signed(void) { answer = yikes_signed(K, UINT64_MAX, out, 1); }
 static void write_file(void) { answer = yikes_write_file(BOOK, 1, 7, numbers, JOBS, words[0], JOB_WORDS, files, FILE_BYTES); }
 static void write_order(void) { answer = yikes_write_order(E, order, 7); }
 static void write_bundle(void) { answer = yikes_write_bundle(E, files, sizeof files, copy, sizeof copy); }
+static void check_file(void) { answer = yikes_check_file(files, FILE_BYTES); }
+static void read_step(void) { answer = yikes_read(bundle, sizeof bundle, 0, out, 4); }
 static void accept(void) { answer = yikes_accept(bundle, sizeof bundle); }
+static void describe(void) { answer = yikes_describe(bundle, sizeof bundle, out, YIKES_ABOUT); }
+static void job_number(void) { answer = yikes_job_number(bundle, sizeof bundle, 1, out, 1); }
+static void file_part(void) { answer = yikes_file(bundle, sizeof bundle, N - 1, out, 3); }
 static void open_place(void) { answer = yikes_open_place(bundle, sizeof bundle, 1, out, D, wrong, 1); }
 static void total(void) { answer = yikes_total(bundle, sizeof bundle, N, 0, JOBS, out, D); }
 static void open_run(void) { answer = yikes_open_run(bundle, sizeof bundle, 0, JOBS, out, D, wrong, 1); }
@@ -51,7 +56,12 @@ static const struct {
              {"yikes_write_file", write_file},
              {"yikes_write_order", write_order},
              {"yikes_write_bundle", write_bundle},
+             {"yikes_check_file", check_file},
+             {"yikes_read", read_step},
              {"yikes_accept", accept},
+             {"yikes_describe", describe},
+             {"yikes_job_number", job_number},
+             {"yikes_file", file_part},
              {"yikes_open_place", open_place},
              {"yikes_total", total},
              {"yikes_open_run", open_run},

@@ -12,8 +12,9 @@ ghost use Rattle.arithmetic.specs.Calls.{operandFault, operandsFault};
 ghost use Rattle.codewords.specs.Opening.{faultOf, secretInto, wrongInto};
 ghost use Rattle.sharing.specs.Dealing.{dealFault, dealt};
 ghost use Rattle.sharing.specs.Opening.{lent, opening};
-ghost use Rattle.bundle.specs.Bundle.{bundleFault, paramsOf};
+ghost use Rattle.bundle.specs.Bundle.{fileFault, bundleFault, paramsOf};
 ghost use Rattle.fetch.specs.Fetch.{fileOf, bodyFault, partFault, partOf};
+ghost use Rattle.describe.specs.Describe.{aboutOf, describeFault, numberOf, numberFault, filePartOf, filePartFault, stepOf, stepFault};
 ghost use Rattle.writer.specs.Bytes.{fileBytes, orderBytes};
 ghost use Rattle.writer.specs.Write.{fileFor, fileWriteFault, orderFault, bundleWriteFault};
 ghost use Rattle.totals.specs.Total.{totalFault, totalWords};
@@ -170,6 +171,24 @@ pub extern "C" fn yikes_write_bundle(e: u8, files: &[u8], out: &mut [u8]) -> u8
     writer::write_bundle(e, files, out)
 }
 
+// The first fault of a file by itself, or 0 where it is accepted.
+#[no_mangle]
+pub extern "C" fn yikes_check_file(file: &[u8]) -> u8
+    ensures { λ r. ⌜ r ≡ fileFault (now (file .entry)) ⌝ }
+{
+    bundle::check_file(file)
+}
+
+// What stands at a cursor, a record or the end, its kind, and its body as offset and length: an output of four words.
+#[no_mangle]
+pub extern "C" fn yikes_read(bytes: &[u8], cursor: usize, step: &mut [u64]) -> u8
+    ensures { λ r. ⌜ (r ≡ stepFault (now (bytes .entry)) cursor (length (now (step .entry))))
+        × (now (step .exit) ≡ kept (stepFault (now (bytes .entry)) cursor (length (now (step .entry)))) (now (step .entry))
+        (stepOf (now (bytes .entry)) cursor)) ⌝ }
+{
+    describe::read_step(bytes, cursor, step)
+}
+
 // ---- bundles
 
 // The first fault of a bundle, or 0 where it is accepted.
@@ -178,6 +197,36 @@ pub extern "C" fn yikes_accept(bytes: &[u8]) -> u8
     ensures { λ r. ⌜ r ≡ bundleFault (now (bytes .entry)) ⌝ }
 {
     bundle::bundle_fault(bytes)
+}
+
+// Allowance, parameters, archive number, jobs, files and the bytes of a file: an output of nine words.
+#[no_mangle]
+pub extern "C" fn yikes_describe(bytes: &[u8], about: &mut [u64]) -> u8
+    ensures { λ r. ⌜ (r ≡ describeFault (now (bytes .entry)) (length (now (about .entry))))
+        × (now (about .exit) ≡ kept (describeFault (now (bytes .entry)) (length (now (about .entry)))) (now (about .entry))
+        (aboutOf (now (bytes .entry)))) ⌝ }
+{
+    describe::describe(bytes, about)
+}
+
+// The number of the job at a place: an output of one word.
+#[no_mangle]
+pub extern "C" fn yikes_job_number(bytes: &[u8], place: usize, number: &mut [u64]) -> u8
+    ensures { λ r. ⌜ (r ≡ numberFault (now (bytes .entry)) place (length (now (number .entry))))
+        × (now (number .exit) ≡ kept (numberFault (now (bytes .entry)) place (length (now (number .entry)))) (now (number .entry))
+        (numberOf (now (bytes .entry)) place)) ⌝ }
+{
+    describe::job_number(bytes, place, number)
+}
+
+// The holder of a file, and the file as its offset in the bundle and its length: an output of three words.
+#[no_mangle]
+pub extern "C" fn yikes_file(bytes: &[u8], index: usize, part: &mut [u64]) -> u8
+    ensures { λ r. ⌜ (r ≡ filePartFault (now (bytes .entry)) index (length (now (part .entry))))
+        × (now (part .exit) ≡ kept (filePartFault (now (bytes .entry)) index (length (now (part .entry)))) (now (part .entry))
+        (filePartOf (now (bytes .entry)) index)) ⌝ }
+{
+    describe::file_part(bytes, index, part)
 }
 
 // Opens the job at a place, with the set of the wrong holders as a second output of one word.

@@ -29,7 +29,14 @@ extern "C" {
     ) -> c_uchar;
     pub fn yikes_write_order(e: u8, out: *mut u8, out_length: usize) -> c_uchar;
     pub fn yikes_write_bundle(e: u8, files: *const u8, files_length: usize, out: *mut u8, out_length: usize) -> c_uchar;
+    pub fn yikes_check_file(file: *const u8, file_length: usize) -> c_uchar;
+    pub fn yikes_read(bytes: *const u8, bytes_length: usize, cursor: usize, step: *mut u64, step_length: usize) -> c_uchar;
     pub fn yikes_accept(bundle: *const u8, bundle_length: usize) -> c_uchar;
+    pub fn yikes_describe(bundle: *const u8, bundle_length: usize, about: *mut u64, about_length: usize) -> c_uchar;
+    pub fn yikes_job_number(
+        bundle: *const u8, bundle_length: usize, place: usize, number: *mut u64, number_length: usize,
+    ) -> c_uchar;
+    pub fn yikes_file(bundle: *const u8, bundle_length: usize, index: usize, part: *mut u64, part_length: usize) -> c_uchar;
     pub fn yikes_open_place(
         bundle: *const u8, bundle_length: usize, place: usize, out: *mut u64, out_length: usize, wrong: *mut u64, wrong_length: usize,
     ) -> c_uchar;

@@ -34,30 +34,31 @@ pub struct Params {
 
 /// Why a call declines, with paper 01's numbers.
 #[derive(Clone, Copy, Debug, PartialEq, Eq)]
-#[repr(u8)]
 pub enum Refusal {
-    /// A number of the book, or the number of jobs, is out of its range.
-    Parameters = 1,
-    /// A list or an output has not the length that the call needs.
-    Length = 2,
-    /// A word that the call uses is 2^k or more.
-    WideWord = 3,
-    /// A holder is not from 1 to n, holders do not strictly rise, or the holder named has no file.
-    Holder = 4,
-    /// Fewer than t + 1 + 2e shares.
-    TooFewShares = 5,
-    /// No polynomial of degree t or less differs from e shares or fewer.
-    NoCodeword = 6,
-    /// Bytes that are no bundle, or job numbers that do not strictly rise.
-    Malformed = 7,
-    /// A file does not belong with the first.
-    Mismatched = 8,
-    /// A place or a run that is not there.
-    OutOfRange = 9,
+    /// 1: a number of the book, or the number of jobs, is out of its range.
+    Parameters,
+    /// 2: a list or an output has not the length that the call needs.
+    Length,
+    /// 3: a word that the call uses is 2^k or more.
+    WideWord,
+    /// 4: a holder is not from 1 to n, holders do not strictly rise, or the holder named has no file.
+    Holder,
+    /// 5: fewer than t + 1 + 2e shares.
+    TooFewShares,
+    /// 6: no polynomial of degree t or less differs from e shares or fewer.
+    NoCodeword,
+    /// 7: bytes that are no bundle, file or record, or job numbers that do not strictly rise.
+    Malformed,
+    /// 8: a file does not belong with the first.
+    Mismatched,
+    /// 9: a place, a run or a file that is not there.
+    OutOfRange,
+    /// A number that this crate does not know, of a library that is newer than it.
+    Unknown(u8),
 }
 
 impl Refusal {
-    /// Every refusal, in the order of the numbers.
+    /// Every refusal that this crate knows, in the order of the numbers.
     pub const ALL: [Refusal; 9] = [
         Refusal::Parameters,
         Refusal::Length,
@@ -72,7 +73,26 @@ impl Refusal {
 
     /// Paper 01's number.
     pub fn number(self) -> u8 {
-        self as u8
+        match self {
+            Refusal::Parameters => 1,
+            Refusal::Length => 2,
+            Refusal::WideWord => 3,
+            Refusal::Holder => 4,
+            Refusal::TooFewShares => 5,
+            Refusal::NoCodeword => 6,
+            Refusal::Malformed => 7,
+            Refusal::Mismatched => 8,
+            Refusal::OutOfRange => 9,
+            Refusal::Unknown(number) => number,
+        }
+    }
+
+    /// What a number stands for, `None` for 0.
+    pub fn from_number(number: u8) -> Option<Refusal> {
+        match number {
+            0 => None,
+            _ => Some(Refusal::ALL.into_iter().find(|refusal| refusal.number() == number).unwrap_or(Refusal::Unknown(number))),
+        }
     }
 }
 
@@ -88,6 +108,7 @@ impl std::fmt::Display for Refusal {
             Refusal::Malformed => "malformed bytes",
             Refusal::Mismatched => "files that do not belong together",
             Refusal::OutOfRange => "a place that is not there",
+            Refusal::Unknown(_) => "a number that is not known",
         };
         write!(f, "{text} ({})", self.number())
     }
@@ -96,10 +117,7 @@ impl std::fmt::Display for Refusal {
 impl std::error::Error for Refusal {}
 
 fn told(number: u8) -> Result<(), Refusal> {
-    match number {
-        0 => Ok(()),
-        c => Err(Refusal::ALL[usize::from(c) - 1]),
-    }
+    Refusal::from_number(number).map_or(Ok(()), Err)
 }
 
 /// What every line of [`list_line`] fits into.
@@ -205,9 +223,128 @@ pub fn write_bundle(e: u8, files: &[u8], out: &mut [u8]) -> Result<(), Refusal> 
     told(unsafe { ffi::yikes_write_bundle(e, files.as_ptr(), files.len(), out.as_mut_ptr(), out.len()) })
 }
 
+/// Whether bytes are one file and nothing more.
+pub fn check_file(file: &[u8]) -> Result<(), Refusal> {
+    told(unsafe { ffi::yikes_check_file(file.as_ptr(), file.len()) })
+}
+
+/// What a read at a cursor finds.
+#[derive(Clone, Debug, PartialEq, Eq)]
+pub enum Step {
+    /// A record.
+    Record {
+        /// Its kind: [`HEADING`], [`JOB`] or [`ORDER`].
+        kind: u64,
+        /// Where its body stands in the bytes. The next cursor is where it ends.
+        body: Range<usize>,
+    },
+    /// The end of the bytes.
+    End,
+}
+
+/// The kind of a heading.
+pub const HEADING: u64 = 1;
+
+/// The kind of a job.
+pub const JOB: u64 = 2;
+
+/// The kind of an order.
+pub const ORDER: u64 = 16;
+
+/// Reads the record at a cursor, and looks at nothing else.
+pub fn read(bytes: &[u8], cursor: usize) -> Result<Step, Refusal> {
+    let mut step = [0; 4];
+    told(unsafe { ffi::yikes_read(bytes.as_ptr(), bytes.len(), cursor, step.as_mut_ptr(), step.len()) })?;
+    let [what, kind, start, length] = step;
+    let body = start as usize..(start + length) as usize;
+    Ok(if what == 0 { Step::Record { kind, body } } else { Step::End })
+}
+
+/// The records of bytes one after another, each as its kind and its body, to the end or to the first read that declines.
+pub fn records(bytes: &[u8]) -> Records<'_> {
+    Records { bytes, cursor: Some(0) }
+}
+
+/// The iterator that [`records`] gives.
+#[derive(Clone, Debug)]
+pub struct Records<'a> {
+    bytes: &'a [u8],
+    cursor: Option<usize>,
+}
+
+impl<'a> Iterator for Records<'a> {
+    type Item = Result<(u64, &'a [u8]), Refusal>;
+
+    fn next(&mut self) -> Option<Self::Item> {
+        match read(self.bytes, self.cursor.take()?) {
+            Ok(Step::Record { kind, body }) => {
+                self.cursor = Some(body.end);
+                Some(Ok((kind, &self.bytes[body])))
+            }
+            Ok(Step::End) => None,
+            Err(refusal) => Some(Err(refusal)),
+        }
+    }
+}
+
 /// Whether a bundle is accepted.
 pub fn accept(bundle: &[u8]) -> Result<(), Refusal> {
     told(unsafe { ffi::yikes_accept(bundle.as_ptr(), bundle.len()) })
+}
+
+/// What the calls on a bundle need to know of it.
+#[derive(Clone, Copy, Debug, PartialEq, Eq)]
+pub struct Description {
+    /// The allowance: how many shares of a job may be wrong.
+    pub e: u64,
+    /// The book.
+    pub params: Params,
+    /// The archive number.
+    pub archive: u64,
+    /// The jobs of each file: places are below it.
+    pub jobs: usize,
+    /// The files.
+    pub files: usize,
+    /// The bytes of each file.
+    pub file_size: usize,
+}
+
+/// What a caller must know of a bundle.
+pub fn describe(bundle: &[u8]) -> Result<Description, Refusal> {
+    let mut about = [0; 9];
+    told(unsafe { ffi::yikes_describe(bundle.as_ptr(), bundle.len(), about.as_mut_ptr(), about.len()) })?;
+    let [e, k, d, n, t, archive, jobs, files, file_size] = about;
+    let params = Params { k, d: d as usize, n: n as usize, t: t as usize };
+    Ok(Description { e, params, archive, jobs: jobs as usize, files: files as usize, file_size: file_size as usize })
+}
+
+/// The number of the job at a place.
+pub fn job_number(bundle: &[u8], place: usize) -> Result<u64, Refusal> {
+    let mut number = [0];
+    told(unsafe { ffi::yikes_job_number(bundle.as_ptr(), bundle.len(), place, number.as_mut_ptr(), number.len()) })?;
+    Ok(number[0])
+}
+
+/// A file of a bundle.
+#[derive(Clone, Debug, PartialEq, Eq)]
+pub struct FilePart {
+    /// Its holder.
+    pub holder: usize,
+    /// Where it stands in the bundle.
+    pub range: Range<usize>,
+}
+
+/// The holder of a file, by its index in the bundle, and where the file stands.
+pub fn file(bundle: &[u8], index: usize) -> Result<FilePart, Refusal> {
+    let mut part = [0; 3];
+    told(unsafe { ffi::yikes_file(bundle.as_ptr(), bundle.len(), index, part.as_mut_ptr(), part.len()) })?;
+    let [holder, offset, length] = part;
+    Ok(FilePart { holder: holder as usize, range: offset as usize..(offset + length) as usize })
+}
+
+/// All the files of a bundle, holders rising.
+pub fn files(bundle: &[u8]) -> Result<Vec<FilePart>, Refusal> {
+    (0..describe(bundle)?.files).map(|index| file(bundle, index)).collect()
 }
 
 /// Opens the job at a place: its words go to `out`, and the set of the wrong holders comes back.

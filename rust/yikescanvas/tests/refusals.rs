@@ -57,7 +57,14 @@ fn bundle() -> Vec<u8> {
 fn numbers_are_the_papers() {
     for (i, refusal) in Refusal::ALL.iter().enumerate() {
         assert_eq!(usize::from(refusal.number()), i + 1);
+        assert_eq!(Refusal::from_number(refusal.number()), Some(*refusal));
         assert!(refusal.to_string().ends_with(&format!("({})", i + 1)));
+    }
+    assert_eq!(Refusal::from_number(0), None);
+    for number in [10, 11, 255] {
+        assert_eq!(Refusal::from_number(number), Some(Refusal::Unknown(number)));
+        assert_eq!(Refusal::Unknown(number).number(), number);
+        assert!(Refusal::Unknown(number).to_string().ends_with(&format!("({number})")));
     }
 }
 
@@ -196,6 +203,10 @@ fn refuses(expected: Refusal, bytes: &[u8]) {
     assert_eq!(fetch_body(bytes, 0, usize::MAX), Err(expected));
     assert_eq!(fetch_range(bytes, 1, 0), Err(expected));
     assert_eq!(fetch_fault(bytes, 0, usize::MAX), Err(expected));
+    assert_eq!(describe(bytes), Err(expected));
+    assert_eq!(job_number(bytes, usize::MAX), Err(expected));
+    assert_eq!(file(bytes, usize::MAX), Err(expected));
+    assert_eq!(files(bytes), Err(expected));
     for n in [0, LINE] {
         declines_bytes(expected, n, |o| list_line(bytes, usize::MAX, o));
     }
@@ -223,6 +234,63 @@ fn faults() {
     for (at, value) in [(101, 8), (96, 4), (119, 9)] {
         refuses(Refusal::Mismatched, &changed(at, value));
     }
+}
+
+#[test]
+fn descriptions() {
+    let bundle = bundle();
+    let about = describe(&bundle).unwrap();
+    assert_eq!(about, Description { e: 1, params: FLAT, archive: 7, jobs: 2, files: 3, file_size: 83 });
+    assert_eq!(Some(about.file_size), file_size(about.params, about.jobs));
+    let numbers: Vec<u64> = (0..about.jobs).map(|place| job_number(&bundle, place).unwrap()).collect();
+    assert_eq!(numbers, [10, 11]);
+    let parts = files(&bundle).unwrap();
+    assert_eq!(parts.iter().map(|part| part.holder).collect::<Vec<_>>(), [1, 2, 3]);
+    assert_eq!(parts.iter().map(|part| part.range.clone()).collect::<Vec<_>>(), [7..90, 90..173, 173..256]);
+    for place in [2, usize::MAX] {
+        assert_eq!(job_number(&bundle, place), Err(Refusal::OutOfRange));
+    }
+    for index in [3, usize::MAX] {
+        assert_eq!(file(&bundle, index), Err(Refusal::OutOfRange));
+    }
+    for part in parts {
+        let mut lone = bundle[part.range].to_vec();
+        assert_eq!(check_file(&lone), Ok(()));
+        for n in 0..lone.len() {
+            assert_eq!(check_file(&lone[..n]), Err(Refusal::Malformed));
+        }
+        for (at, value, expected) in
+            [(6, 65, Refusal::Parameters), (20, 4, Refusal::Parameters), (10, 0, Refusal::Holder), (10, 4, Refusal::Holder)]
+        {
+            let old = std::mem::replace(&mut lone[at], value);
+            assert_eq!(check_file(&lone), Err(expected));
+            lone[at] = old;
+        }
+        lone.push(0);
+        assert_eq!(check_file(&lone), Err(Refusal::Malformed));
+    }
+    assert_eq!(check_file(&bundle), Err(Refusal::Malformed));
+}
+
+#[test]
+fn reads() {
+    let mut bundle = bundle();
+    let read_all: Result<Vec<(u64, &[u8])>, Refusal> = records(&bundle).collect();
+    let all = read_all.unwrap();
+    assert_eq!(all.iter().map(|(kind, _)| *kind).collect::<Vec<_>>(), [ORDER, HEADING, JOB, JOB, HEADING, JOB, JOB, HEADING, JOB, JOB]);
+    assert_eq!(all[0].1, [1]);
+    assert_eq!(all[3].1, &bundle[66..90]);
+    assert_eq!(read(&bundle, 0), Ok(Step::Record { kind: ORDER, body: 6..7 }));
+    assert_eq!(read(&bundle, 256), Ok(Step::End));
+    assert_eq!(read(&[], 0), Ok(Step::End));
+    for cursor in [1, 255, 257, usize::MAX] {
+        assert_eq!(read(&bundle, cursor), Err(Refusal::Malformed));
+    }
+    assert_eq!(read(&[], 1), Err(Refusal::Malformed));
+    assert_eq!(records(&[]).next(), None);
+    bundle.truncate(255);
+    assert_eq!(records(&bundle).filter(Result::is_ok).count(), 9);
+    assert_eq!(records(&bundle).last(), Some(Err(Refusal::Malformed)));
 }
 
 #[test]
