@@ -391,17 +391,14 @@ def read_record(data, at):
     return kind, data[at + 6:at + 4 + length], at + 4 + length
 
 
-class Bundle:
-    """A bundle read whole: e, book, archive, job numbers, and the job bodies of each file under its holder.
+class Files:
+    """Files that belong together: book, archive, job numbers, and the job bodies of each under its holder, in the order of the bytes.
 
     "The first fault in byte order counts; inside one heading the order is 7, 1, 4, 8, and inside one job 7, 8."
     """
 
-    def __init__(self, data):
-        (self.e,), at = self.expect(data, 0, ORDER)
-        self.first, self.numbers, self.files = None, None, {}
-        while at < len(data) or not self.files:  # "a bundle has no file": 7, as the heading is missing
-            at = self.read_file(data, at)
+    def __init__(self):
+        self.first, self.numbers, self.files, self.parts = None, None, {}, []
 
     @staticmethod
     def expect(data, at, kind):
@@ -410,8 +407,8 @@ class Bundle:
         require(read is not None and read[0] == kind, 7)
         return read[1:]
 
-    def read_file(self, data, at):
-        body, at = self.expect(data, at, HEADING)
+    def read_file(self, data, start):
+        body, at = self.expect(data, start, HEADING)
         k, d, n, t, holder, archive, jobs = struct.unpack("<5BQI", body)
         book = Book(k, d, n, t)
         check_book(book, jobs)
@@ -429,7 +426,18 @@ class Bundle:
             numbers.append(number)
         self.numbers = numbers
         self.files[holder] = bodies
+        self.parts.append((holder, start, at - start))
         return at
+
+
+class Bundle(Files):
+    """A bundle read whole: e, and its files."""
+
+    def __init__(self, data):
+        super().__init__()
+        (self.e,), at = self.expect(data, 0, ORDER)
+        while at < len(data) or not self.files:  # "a bundle has no file": 7, as the heading is missing
+            at = self.read_file(data, at)
 
     @property
     def book(self):
@@ -453,6 +461,41 @@ class Bundle:
     def check_run(self, a, b):
         """9 | "a run from a to b has a above b, or b above J"."""
         require(a <= b <= len(self.numbers), 9)
+
+
+def check_file(data):
+    """One file by itself: "bytes follow where a file must end" is its last fault."""
+    require(Files().read_file(data, 0) == len(data), 7)
+
+
+def read_step(data, cursor):
+    """A read as four words: 0 for a record and 1 for the end, the kind, and where the body starts and how long it is."""
+    read = read_record(data, cursor)
+    if read is None:
+        return 1, 0, cursor, 0
+    kind, body, at = read
+    return 0, kind, at - len(body), len(body)
+
+
+def describe(data):
+    """Nine words: e, k, d, n, t, archive number, jobs, files, bytes of a file."""
+    bundle = Bundle(data)
+    book, archive, jobs = bundle.first
+    return bundle.e, *book, archive, jobs, len(bundle.parts), bundle.parts[0][2]
+
+
+def job_number(data, place):
+    """The number of the job at a place. Order: the bundle's faults, 9."""
+    bundle = Bundle(data)
+    require(place < len(bundle.numbers), 9)
+    return bundle.numbers[place]
+
+
+def file_part(data, index):
+    """Holder, offset and length of a file. Order: the bundle's faults, 9."""
+    bundle = Bundle(data)
+    require(index < len(bundle.parts), 9)
+    return bundle.parts[index]
 
 
 def fetch(data, holder, place):
@@ -573,6 +616,11 @@ def test_bundle():
         at = read[2]
     assert kinds == [16] + 3 * [1, 2, 2] and at == 256
     assert number_of(read_record, data, 257) == number_of(read_record, b"", 1) == 7 and read_record(b"", 0) is None
+    assert describe(data) == (1, 3, 2, 3, 0, 7, 2, 3, 83)
+    assert [job_number(data, place) for place in (0, 1)] == [10, 11] and number_of(job_number, data, 2) == 9
+    assert [file_part(data, index) for index in range(3)] == [(1, 7, 83), (2, 90, 83), (3, 173, 83)] and number_of(file_part, data, 3) == 9
+    assert [number_of(check_file, data[a:b]) for a, b in ((7, 90), (7, 89), (7, 91), (7, 173), (0, 256), (0, 0))] == [0, 7, 7, 7, 7, 7]
+    assert [read_step(data, at) for at in (0, 7, 226, 256)] == [(0, 16, 6, 1), (0, 1, 13, 17), (0, 2, 232, 24), (1, 0, 256, 0)]
     with_cuts = [number_of(Bundle, data[:cut]) for cut in range(257)]
     assert [cut for cut, number in enumerate(with_cuts) if number == 0] == [90, 173, 256]
     assert set(with_cuts) == {0, 7}

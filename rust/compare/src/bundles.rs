@@ -42,6 +42,9 @@ pub fn bundle(random: &mut Random, answers: &mut Answers) -> Result<(), String> 
     }
     holder_calls(random, answers, &written, &bytes)?;
     run_call(random, answers, &written, &bytes)?;
+    description_calls(random, answers, &written, &bytes)?;
+    reads(random, answers, &written, &bytes)?;
+    lone_file(random, answers, &written, &bytes)?;
     rewrite(random, answers, &bytes)
 }
 
@@ -106,6 +109,55 @@ fn run_call(random: &mut Random, answers: &mut Answers, written: &Written, bytes
     let library = on_words(lengths, |out, wrong| library::open_run(bytes, a, b, out, wrong));
     let second = on_words(lengths, |out, wrong| number(second::open_run(bytes, a, b, out, wrong)));
     answers.same("open_run", &(bytes, a, b), &library, &second)
+}
+
+fn description_calls(random: &mut Random, answers: &mut Answers, written: &Written, bytes: &[u8]) -> Result<(), String> {
+    let (place, file) = (index(random, written.jobs), index(random, written.files()));
+    let lengths = [length(random, 9), 0];
+    let library = on_words(lengths, |about, _| library::describe(bytes, about));
+    let second = on_words(lengths, |about, _| number(second::describe(bytes, about)));
+    answers.same("describe", &bytes, &library, &second)?;
+    let lengths = [length(random, 1), 0];
+    let library = on_words(lengths, |out, _| library::job_number(bytes, place, out));
+    let second = on_words(lengths, |out, _| number(second::job_number(bytes, place, out)));
+    answers.same("job_number", &(bytes, place), &library, &second)?;
+    let lengths = [length(random, 3), 0];
+    let library = on_words(lengths, |part, _| library::file(bytes, file, part));
+    let second = on_words(lengths, |part, _| number(second::file(bytes, file, part)));
+    answers.same("file", &(bytes, file), &library, &second)
+}
+
+/// Reads by a cursor: one from any position, and from a record on some more, each where the one before ended.
+fn reads(random: &mut Random, answers: &mut Answers, written: &Written, bytes: &[u8]) -> Result<(), String> {
+    let at = index(random, bytes.len() + 1);
+    read(random, answers, bytes, at)?;
+    let mut cursor = Some(boundary(random, written));
+    for _ in 0..8 {
+        let Some(at) = cursor else { break };
+        cursor = read(random, answers, bytes, at)?;
+    }
+    Ok(())
+}
+
+/// One read, and where the next may start.
+fn read(random: &mut Random, answers: &mut Answers, bytes: &[u8], at: usize) -> Result<Option<usize>, String> {
+    let lengths = [length(random, 4), 0];
+    let library = on_words(lengths, |step, _| library::read(bytes, at, step));
+    let second = on_words(lengths, |step, _| number(second::read(bytes, at, step)));
+    answers.same("read", &(bytes, at), &library, &second)?;
+    let mut step = [0; 4];
+    Ok(second::read(bytes, at, &mut step).ok().filter(|()| step[0] == 0).map(|()| (step[2] + step[3]) as usize))
+}
+
+/// A file of the bundle by itself, sometimes a little more or less of it.
+fn lone_file(random: &mut Random, answers: &mut Answers, written: &Written, bytes: &[u8]) -> Result<(), String> {
+    let size = written.file_size();
+    let start = (ORDER + random.below(written.files()) * size).min(bytes.len());
+    let size = if random.one_in(4) { random.pick(&[size - 1, size + 1, 2 * size, bytes.len()]) } else { size };
+    let file = &bytes[start..(start + size).min(bytes.len())];
+    let library = on_words([0, 0], |_, _| library::check_file(file));
+    let second = on_words([0, 0], |_, _| number(second::check_file(file)));
+    answers.same("check_file", &file, &library, &second)
 }
 
 /// The same files under another order.

@@ -48,8 +48,28 @@ pub fn write_bundle(e: u8, files: &[u8], out: &mut [u8]) -> u8 {
     unsafe { yikes_write_bundle(e, files.as_ptr(), files.len(), out.as_mut_ptr(), out.len()) }
 }
 
+pub fn check_file(file: &[u8]) -> u8 {
+    unsafe { yikes_check_file(file.as_ptr(), file.len()) }
+}
+
+pub fn read(bytes: &[u8], cursor: usize, step: &mut [u64]) -> u8 {
+    unsafe { yikes_read(bytes.as_ptr(), bytes.len(), cursor, step.as_mut_ptr(), step.len()) }
+}
+
 pub fn accept(bundle: &[u8]) -> u8 {
     unsafe { yikes_accept(bundle.as_ptr(), bundle.len()) }
+}
+
+pub fn describe(bundle: &[u8], about: &mut [u64]) -> u8 {
+    unsafe { yikes_describe(bundle.as_ptr(), bundle.len(), about.as_mut_ptr(), about.len()) }
+}
+
+pub fn job_number(bundle: &[u8], place: usize, number: &mut [u64]) -> u8 {
+    unsafe { yikes_job_number(bundle.as_ptr(), bundle.len(), place, number.as_mut_ptr(), number.len()) }
+}
+
+pub fn file(bundle: &[u8], index: usize, part: &mut [u64]) -> u8 {
+    unsafe { yikes_file(bundle.as_ptr(), bundle.len(), index, part.as_mut_ptr(), part.len()) }
 }
 
 #[rustfmt::skip]

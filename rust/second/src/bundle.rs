@@ -47,6 +47,34 @@ fn put(opened: &Opened, out: &mut [u64], wrong: &mut [u64]) {
     wrong[0] = opened.wrong;
 }
 
+/// The allowance, the book, the archive number, the jobs, the files and the bytes of a file.
+pub fn describe(bytes: &[u8], about: &mut [u64]) -> Result<(), Refusal> {
+    let bundle = read_bundle(bytes)?;
+    demand(about.len() == 9, Refusal::Length)?;
+    let (Params { k, d, n, t }, first) = (bundle.params(), &bundle.files[0]);
+    let sizes = [first.jobs.len(), bundle.files.len(), first.part.len()].map(|x| x as u64);
+    let book = [bundle.e.into(), k, d as u64, n as u64, t as u64, first.heading.archive];
+    about.copy_from_slice(&[&book[..], &sizes].concat());
+    Ok(())
+}
+
+pub fn job_number(bytes: &[u8], place: usize, number: &mut [u64]) -> Result<(), Refusal> {
+    let bundle = read_bundle(bytes)?;
+    demand(number.len() == 1, Refusal::Length)?;
+    bundle.place(place)?;
+    number[0] = bundle.files[0].jobs[place].number;
+    Ok(())
+}
+
+/// Holder, offset and length of a file.
+pub fn file(bytes: &[u8], index: usize, part: &mut [u64]) -> Result<(), Refusal> {
+    let bundle = read_bundle(bytes)?;
+    demand(part.len() == 3, Refusal::Length)?;
+    let file = bundle.files.get(index).ok_or(Refusal::OutOfRange)?;
+    part.copy_from_slice(&[file.heading.holder, file.part.start, file.part.len()].map(|x| x as u64));
+    Ok(())
+}
+
 pub fn open_place(bytes: &[u8], place: usize, out: &mut [u64], wrong: &mut [u64]) -> Result<(), Refusal> {
     let bundle = read_bundle(bytes)?;
     bundle.lengths(out, wrong)?;

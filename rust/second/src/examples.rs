@@ -135,3 +135,28 @@ fn faults_in_byte_order() {
     assert_eq!(accept(&example_bundle()[..7]), Err(Refusal::Malformed));
     assert_eq!(accept(&example_bundle()[..second]), Ok(()));
 }
+
+/// What a caller must know of the example, and what the cursor reads in it.
+#[test]
+fn the_example_described() {
+    let bundle = example_bundle();
+    let (mut about, mut number, mut part) = ([0; 9], [0], [0; 3]);
+    describe(&bundle, &mut about).unwrap();
+    assert_eq!(about, [1, 3, 2, 3, 0, 7, 2, 3, 83]);
+    job_number(&bundle, 1, &mut number).unwrap();
+    assert_eq!(number, [11]);
+    file(&bundle, 2, &mut part).unwrap();
+    assert_eq!(part, [3, 173, 83]);
+    assert_eq!(check_file(&bundle[173..]), Ok(()));
+    assert_eq!([check_file(&bundle[90..]), check_file(&bundle)], [Err(Refusal::Malformed); 2]);
+    assert_eq!([job_number(&bundle, 2, &mut number), file(&bundle, 3, &mut part)], [Err(Refusal::OutOfRange); 2]);
+    assert_eq!([job_number(&bundle, 2, &mut []), file(&bundle, 3, &mut []), describe(&bundle, &mut [])], [Err(Refusal::Length); 3]);
+    let (mut kinds, mut step) = (vec![], [0; 4]);
+    while step[0] == 0 {
+        read(&bundle, (step[2] + step[3]) as usize, &mut step).unwrap();
+        kinds.push(step[1]);
+    }
+    assert_eq!((kinds, step), (vec![16, 1, 2, 2, 1, 2, 2, 1, 2, 2, 0], [1, 0, 256, 0]));
+    assert_eq!([read(&bundle, 257, &mut step), read(&bundle, 1, &mut step), read(&[], 1, &mut step)], [Err(Refusal::Malformed); 3]);
+    assert_eq!(read(&bundle, 257, &mut []), Err(Refusal::Length));
+}

@@ -28,6 +28,8 @@ pub struct Job {
 pub struct File {
     pub heading: Heading,
     pub jobs: Vec<Job>,
+    /// Where the file stands in the bundle.
+    pub part: Range<usize>,
 }
 
 #[derive(Clone, Debug, PartialEq, Eq)]
@@ -90,6 +92,7 @@ impl Reader<'_> {
 
     /// A file that comes after the given ones.
     fn file(&mut self, before: &[File]) -> Result<File, Refusal> {
+        let start = self.at;
         let heading = self.heading()?;
         if let (Some(first), Some(last)) = (before.first(), before.last()) {
             demand(last.heading.holder < heading.holder, Refusal::Holder)?;
@@ -103,7 +106,7 @@ impl Reader<'_> {
             demand(before.first().is_none_or(|first| first.jobs[place].number == job.number), Refusal::Mismatched)?;
             jobs.push(job);
         }
-        Ok(File { heading, jobs })
+        Ok(File { heading, jobs, part: start..self.at })
     }
 }
 
@@ -115,6 +118,34 @@ pub fn read_bundle(bytes: &[u8]) -> Result<Bundle, Refusal> {
         files.push(reader.file(&files)?);
     }
     Ok(Bundle { e: bytes[order.start], files })
+}
+
+/// The first fault of bytes that should be one file, with nothing after it.
+pub fn check_file(bytes: &[u8]) -> Result<(), Refusal> {
+    let mut reader = Reader { bytes, at: 0 };
+    reader.file(&[])?;
+    demand(reader.at_end(), Refusal::Malformed)
+}
+
+/// The record at a cursor, of a kind and a length that go together in some book, or the end: 0 or 1, the kind, the body's start and length.
+pub fn read(bytes: &[u8], cursor: usize, step: &mut [u64]) -> Result<(), Refusal> {
+    demand(step.len() == 4, Refusal::Length)?;
+    let rest = bytes.get(cursor..).ok_or(Refusal::Malformed)?;
+    if rest.is_empty() {
+        step.copy_from_slice(&[1, 0, cursor as u64, 0]);
+        return Ok(());
+    }
+    let (start, body) = rest.split_at_checked(6).ok_or(Refusal::Malformed)?;
+    let (length, kind) = (number(&start[..4]), number(&start[4..]));
+    let lengths: &[u64] = match kind {
+        1 => &[19],
+        2 => &[26, 34, 42, 50, 58],
+        16 => &[3],
+        _ => &[],
+    };
+    demand(lengths.contains(&length) && length - 2 <= body.len() as u64, Refusal::Malformed)?;
+    step.copy_from_slice(&[0, kind, cursor as u64 + 6, length - 2]);
+    Ok(())
 }
 
 pub fn accept(bytes: &[u8]) -> Result<(), Refusal> {

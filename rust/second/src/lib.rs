@@ -12,9 +12,9 @@ mod listing;
 mod ring;
 mod sharing;
 
-pub use bundle::{fetch_body, fetch_fault, open_place, open_run, total};
+pub use bundle::{describe, fetch_body, fetch_fault, file, job_number, open_place, open_run, total};
 pub use decode::{by_levels, by_subsets, Opened};
-pub use files::{accept, read_bundle, write_bundle, write_file, write_order, Bundle, File, Heading, Job};
+pub use files::{accept, check_file, read, read_bundle, write_bundle, write_file, write_order, Bundle, File, Heading, Job};
 pub use listing::{list_line, signed, LINE};
 pub use ring::{Element, Ring};
 pub use sharing::{add, deal, invert, open, scale, share, Share};
