@@ -94,7 +94,7 @@ module _ (bs : List ℕ) (b : Bytes bs) where
       ∙ join bs at (jobSize h) (at + jobSize h) (n * jobSize h) (suc n * jobSize h) refl (omega arith)
 
   -- a file with no fault
-  file : (base prev at : ℕ) → fileFaultAt bs base prev at ≡ 0 → fileBytes (fileFrom bs at) ≡ part at (fileSize (headingOf bs at)) bs
+  pub file : (base prev at : ℕ) → fileFaultAt bs base prev at ≡ 0 → fileBytes (fileFrom bs at) ≡ part at (fileSize (headingOf bs at)) bs
   unfolding fileBytes fileFrom fileSize jobFault
   file base prev at e =
       let k = file-ok bs base prev at e in
