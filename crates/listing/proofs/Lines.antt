@@ -19,7 +19,7 @@ use Rattle.records.specs.declared.Heading.{Heading}
 use Rattle.bundle.specs.Bundle.{numOf, jobAt, paramsOf, allowanceOf, bundleHeading}
 use Rattle.archive.specs.Archive.{sharesAt, placeInWidth, placeOpening}
 use Rattle.text.specs.Text.{written, lineRoom, openLine, declinedLine, readings}
-use Rattle.text.proofs.Written.{Wrote}
+use Rattle.text.proofs.Written.{Wrote, written-none}
 use Rattle.listing.specs.Listing.{lineBy, lineOf}
 
 -- the job of an opened place is an element: d words, in width
@@ -77,3 +77,7 @@ pub wrote-line : (old new line text : List ℕ) (r : ℕ) → line ≡ text → 
     → (new ≡ written 0 line old) × (r ≡ length line) × (r ≤ lineRoom)
 wrote-line old new line text r e w l =
     (w .0 ∙ ap (λ (t : List ℕ). written 0 t old) (sym e), omega (arith, w .1, ap length e), omega (arith, w .1))
+
+-- and where there is nothing to write
+pub wrote-none : (old text : List ℕ) → text ≡ [] → (old ≡ written 0 text old) × (0 ≡ length text) × (0 ≤ lineRoom)
+wrote-none old text e = (sym (ap (λ (t : List ℕ). written 0 t old) e ∙ written-none old 0), sym (ap length e), omega arith)

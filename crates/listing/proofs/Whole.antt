@@ -1,15 +1,14 @@
 -- What is printed for an input (listingOf), by its parts: a refused input has one line; an accepted one has the head line and then the lines of its
--- places, and the lines from a place on are its line and the lines from the next. Assumes nothing.
+-- places. Assumes nothing.
 use mathlib.Core.Path.{_≡_, refl, ap, _∙_}
-use mathlib.Core.List.{List, [], _++_}
-use Prim.Native.Nat.{ℕ, zero, suc, _+_, _-_, _≤_, _<_}
-use native.Mathlib.Omega.{arith}
+use mathlib.Core.List.{List, _++_}
+use Prim.Native.Nat.{ℕ, zero, suc, _≤_, _<_}
 use borrow.Author.Tests.{le-leb, lt-leb}
 use lib.ListN.{length}
 use Rattle.words.specs.Refusal.{first, unless}
 use Rattle.bundle.specs.Bundle.{bundleHeading, bundleFault}
 use Rattle.text.specs.Text.{headLine, refusedLine}
-use Rattle.listing.specs.Listing.{lineOf, linesFrom, mostInput, inputFault, unlessRefused, listingOf}
+use Rattle.listing.specs.Listing.{linesFrom, mostInput, inputFault, unlessRefused, listingOf}
 
 -- the whole text, by the fault of the input
 by-fault : (bs : List ℕ) (f : ℕ) → inputFault bs ≡ f → listingOf bs ≡ unlessRefused f (headLine ++ linesFrom bs 0 (bundleHeading bs .jobs))
@@ -17,7 +16,7 @@ unfolding listingOf
 by-fault bs f e = ap (λ (n : ℕ). unlessRefused n (headLine ++ linesFrom bs 0 (bundleHeading bs .jobs))) e
 
 -- "Input that is too long gives 2 before any record is looked at."
-too-long : (bs : List ℕ) → mostInput < length bs → inputFault bs ≡ 2
+pub too-long : (bs : List ℕ) → mostInput < length bs → inputFault bs ≡ 2
 unfolding inputFault first unless
 too-long bs h = rw (lt-leb (length bs) mostInput h)
 
@@ -25,7 +24,7 @@ pub too-long-lists : (bs : List ℕ) → mostInput < length bs → listingOf bs 
 too-long-lists bs h = by-fault bs 2 (too-long bs h)
 
 -- an input that is not too long has the bundle's fault
-within : (bs : List ℕ) → length bs ≤ mostInput → inputFault bs ≡ bundleFault bs
+pub within : (bs : List ℕ) → length bs ≤ mostInput → inputFault bs ≡ bundleFault bs
 unfolding inputFault first unless
 within bs h = rw (le-leb (length bs) mostInput h)
 
@@ -37,17 +36,3 @@ refused-lists bs (suc c) h e z = by-fault bs (suc c) (within bs h ∙ e)
 -- "The first is `job state wrong words`. Each job has a line"
 pub accepted-lists : (bs : List ℕ) → length bs ≤ mostInput → bundleFault bs ≡ 0 → listingOf bs ≡ headLine ++ linesFrom bs 0 (bundleHeading bs .jobs)
 accepted-lists bs h e = by-fault bs 0 (within bs h ∙ e)
-
--- what the program prints in a turn, of n places, and that it then has printed all
-pub lines-next : (bs : List ℕ) (p n : ℕ) → p < n → linesFrom bs p (n - p) ≡ lineOf bs p ++ linesFrom bs (p + 1) (n - (p + 1))
-unfolding linesFrom
-lines-next bs p n h =
-    let m : n - p ≡ suc (n - (p + 1)) = omega (arith, h) in
-    let q : suc p ≡ p + 1 = omega arith in
-    ap (linesFrom bs p) m ∙ ap (λ (r : ℕ). lineOf bs p ++ linesFrom bs r (n - (p + 1))) q
-
-pub lines-end : (bs : List ℕ) (n : ℕ) → linesFrom bs n (n - n) ≡ []
-unfolding linesFrom
-lines-end bs n =
-    let m : n - n ≡ 0 = omega arith in
-    ap (linesFrom bs n) m

@@ -1,16 +1,31 @@
 // The listing of a bundle, a line at a time.
 ghost use mathlib.Core.Path.{_≡_};
 ghost use mathlib.Core.List.{[], _∷_};
-ghost use Prim.Native.Nat.{_≤_, _<_};
+ghost use Prim.Native.Nat.{_+_, _≤_, _<_};
 ghost use lib.ListN.{length};
-ghost use Rattle.words.specs.Refusal.{kept};
-ghost use Rattle.bundle.specs.Bundle.{bundleFault, bundleHeading, filesOf};
+ghost use Rattle.words.specs.Refusal.{kept, LENGTH};
+ghost use Rattle.bundle.specs.Bundle.{bundleFault, bundleHeading, filesOf, noHeading};
 ghost use Rattle.text.specs.Text.{written, lineRoom};
 ghost use Rattle.listing.specs.Listing.{lineOf, lineFault};
+ghost use Rattle.listing.specs.Pieces.{piece, acceptedInput, printerAt};
+use bundle::Accepted;
 use records::Heading;
+use words::Params;
 
 // The most bytes of an input: the definition's mostInput.
 pub const MOST_INPUT: usize = 65536;
+
+// What printing keeps of an input: what accepting it gave, and which piece of its text is next.
+pub struct Printer {
+    pub accepted: Accepted,
+    pub next: usize,
+}
+
+// The size of the piece that was written, and the printer of the next one.
+pub struct Piece {
+    pub printer: Printer,
+    pub size: usize,
+}
 
 // Writes the line of the job at a place of an accepted bundle from the start of a lent buffer, and gives its length.
 pub fn put_line(bytes: &[u8], h: Heading, files: usize, place: usize, out: &mut [u8]) -> usize
@@ -62,4 +77,86 @@ pub fn list_line(bytes: &[u8], place: usize, line: &mut [u8], size: &mut [u64]) 
     let n = put_line(bytes, h, accepted.files, place, line);
     size[0] = n as u64;
     0
+}
+
+// What accepting gives for an input that is too long.
+fn too_long() -> Accepted
+    ensures { λ r. ⌜ r ≡ (record { fault = LENGTH; files = 0; heading = noHeading }) ⌝ }
+{
+    let params = Params {
+        k: 0,
+        d: 0,
+        n: 0,
+        t: 0,
+    };
+    let heading = Heading {
+        params,
+        holder: 0,
+        archive: 0,
+        jobs: 0,
+    };
+    Accepted {
+        fault: words::LENGTH,
+        files: 0,
+        heading,
+    }
+}
+
+// Accepts an input; one that is too long before any record is looked at.
+pub fn accept_input(bytes: &[u8]) -> Accepted
+    ensures { λ r. ⌜ r ≡ acceptedInput (now (bytes .entry)) ⌝ }
+{
+    if MOST_INPUT < bytes.len() {
+        return too_long();
+    }
+    bundle::accept(bytes)
+}
+
+// The printer of an input's text.
+pub fn start(bytes: &[u8]) -> Printer
+    ensures { λ r. ⌜ r ≡ printerAt (now (bytes .entry)) 0 ⌝ }
+{
+    let accepted = accept_input(bytes);
+    Printer { accepted, next: 0 }
+}
+
+// Writes a piece of an input's text from the start of a lent buffer, and gives its size: 0 past the last.
+pub fn put_piece(bytes: &[u8], accepted: Accepted, i: usize, line: &mut [u8]) -> usize
+    requires { ⌜ (accepted ≡ acceptedInput (now bytes)) × (lineRoom ≤ length (now line)) ⌝ }
+    ensures { λ r. ⌜ (now (line .exit) ≡ written 0 (piece (now (bytes .entry)) i) (now (line .entry)))
+        × (r ≡ length (piece (now (bytes .entry)) i)) × (r ≤ lineRoom) ⌝ }
+{
+    if accepted.fault != 0 {
+        if i == 0 {
+            return text::put_refused(line, 0, accepted.fault);
+        }
+        return 0;
+    }
+    if i == 0 {
+        return text::put_head(line, 0);
+    }
+    let h = accepted.heading;
+    if h.jobs < i {
+        return 0;
+    }
+    put_line(bytes, h, accepted.files, i - 1, line)
+}
+
+// Writes the next piece into a lent buffer. A size of 0 says that the text has ended.
+pub fn next(printer: Printer, bytes: &[u8], line: &mut [u8]) -> Piece
+    requires { ⌜ (printer ≡ printerAt (now bytes) (printer .next)) × (lineRoom ≤ length (now line)) ⌝ }
+    ensures { λ r. ⌜ (now (line .exit) ≡ written 0 (piece (now (bytes .entry)) (printer .next)) (now (line .entry)))
+        × (r .size ≡ length (piece (now (bytes .entry)) (printer .next))) × (r .size ≤ lineRoom)
+        × (r .printer ≡ printerAt (now (bytes .entry)) (printer .next + 1)) ⌝ }
+{
+    let accepted = printer.accepted;
+    let size = put_piece(bytes, accepted, printer.next, line);
+    if size == 0 {
+        return Piece { printer, size };
+    }
+    let printer = Printer {
+        accepted,
+        next: printer.next + 1,
+    };
+    Piece { printer, size }
 }
