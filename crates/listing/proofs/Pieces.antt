@@ -178,6 +178,15 @@ module _ (bs : List ℕ) (p : Printer) where
         let m : min (p .next) (piecesIn bs) ≡ min (p .next + 1) (piecesIn bs) = omega (arith, h) in
         e ∙ ap (λ (k : ℕ). record { accepted = acceptedInput bs; next = k }) m
 
+-- a piece that is not empty leaves fewer
+pub printer-falls : (bs : List ℕ) (p q : Printer) → q ≡ printerAt bs (p .next + 1) → (length (piece bs (p .next)) ≡ 0 → ⊥)
+    → piecesIn bs - q .next < piecesIn bs - p .next
+unfolding printerAt
+printer-falls bs p q e n =
+    let h : p .next < piecesIn bs = piece-more bs (p .next) n in
+    let m : q .next ≡ min (p .next + 1) (piecesIn bs) = ap (λ (x : Printer). x .next) e in
+    omega (arith, h, m)
+
 -- the first
 pub printer-start : (bs : List ℕ) (a : Accepted) → a ≡ acceptedInput bs → record { accepted = a; next = 0 } ≡ printerAt bs 0
 unfolding printerAt

@@ -1,57 +1,119 @@
 // Reads a bundle from standard input and prints a line for each of its jobs, or the number that it is refused with.
-ghost use mathlib.Core.Path.{_≡_};
-ghost use Prim.Native.Nat.{_≤_};
+//
+// What is printed is a beginning of the input's listing, and all of it unless standard error says that writing failed. Where reading fails
+// nothing is printed. Of the bytes that pass through `read` and `write` no contract speaks.
+ghost use Prim.Native.Nat.{_<_};
 ghost use lib.ListN.{length};
-ghost use Rattle.bundle.specs.Bundle.{bundleFault, bundleHeading, filesOf};
+ghost use Rattle.io.specs.Counts.{Counts};
+ghost use Rattle.listing.specs.Listing.{mostInput};
 use libc::STDIN_FILENO;
 use libc::STDOUT_FILENO;
-use records::Heading;
 
-// Prints the first n bytes of a text.
-fn print(text: &[u8], n: usize)
-    requires { ⌜ n ≤ length (now text) ⌝ }
-{
-    let start: usize = 0;
-    io::write_all(STDOUT_FILENO, &text[start..n]);
+// How often a read or a write that a signal interrupted, or that would have had to wait, is tried again before it counts as failed: at a
+// million tries a second, for half a million years.
+const TRIES: u64 = 18446744073709551615;
+
+// What was read: how many bytes, and whether the input then ended, or the space was full, and reading had not failed.
+struct Input {
+    count: usize,
+    whole: bool,
 }
 
-fn refused(number: u8) {
-    let mut line = [0u8; text::LINE];
-    let n = text::put_refused(&mut line, 0, number);
-    print(&line, n);
-}
-
-// The listing of an accepted bundle, a line at a time.
-fn list(bytes: &[u8], h: Heading, files: usize)
-    requires { ⌜ (bundleFault (now bytes) ≡ 0) × (h ≡ bundleHeading (now bytes)) × (files ≡ filesOf (now bytes)) ⌝ }
-{
-    let mut line = [0u8; text::LINE];
-    let n = text::put_head(&mut line, 0);
-    print(&line, n);
-    let mut place: usize = 0;
-    while place < h.jobs {
-        let n = listing::put_line(bytes, h, files, place, &mut line);
-        print(&line, n);
-        place += 1;
+// Whether a read or a write that gave no byte is worth another try.
+fn may_retry(answer: isize) -> bool {
+    if 0 <= answer {
+        return false;
     }
+    let error = os::errno();
+    if error == libc::EAGAIN {
+        libc::sched_yield();
+        return true;
+    }
+    error == libc::EINTR
 }
 
-fn run(bytes: &[u8]) {
-    let accepted = bundle::accept(bytes);
-    if accepted.fault != 0 {
-        refused(accepted.fault);
-    } else {
-        list(bytes, accepted.heading, accepted.files);
+// Reads to the end of the input or of the space, which is longer than an input may be.
+fn read_input(space: &mut [u8]) -> Input
+    requires { ⌜ mostInput < length (now space) ⌝ }
+    ensures { λ r. ⌜ Counts (r .count) (now (space .exit)) ⌝ }
+{
+    let mut count: usize = 0;
+    let mut tries = TRIES;
+    while count < space.len() {
+        let answer = libc::read(STDIN_FILENO, &mut space[count..]);
+        let more = io::count(answer, &space[count..]);
+        if more == 0 {
+            if answer == 0 {
+                return Input { count, whole: true };
+            }
+            if tries == 0 {
+                return Input {
+                    count,
+                    whole: false,
+                };
+            }
+            if !may_retry(answer) {
+                return Input {
+                    count,
+                    whole: false,
+                };
+            }
+            tries -= 1;
+        } else {
+            count += more;
+        }
+    }
+    Input { count, whole: true }
+}
+
+// Writes all of a text, and says whether that went well; if not, a beginning of it may have been written.
+fn write_text(text: &[u8]) -> bool {
+    let mut done: usize = 0;
+    let mut tries = TRIES;
+    while done < text.len() {
+        let answer = libc::write(STDOUT_FILENO, &text[done..]);
+        let more = io::count(answer, &text[done..]);
+        if more == 0 {
+            if tries == 0 {
+                return false;
+            }
+            if !may_retry(answer) {
+                return false;
+            }
+            tries -= 1;
+        } else {
+            done += more;
+        }
+    }
+    true
+}
+
+// Prints the text of an input, a piece at a time.
+fn print(bytes: &[u8]) {
+    let mut line = [0u8; text::LINE];
+    let mut printer = listing::start(bytes);
+    loop {
+        let piece = listing::next(printer, bytes, &mut line);
+        let size = piece.size;
+        if size == 0 {
+            return;
+        }
+        if !write_text(&line[..size]) {
+            os::fail(b"open: standard output");
+            return;
+        }
+        printer = piece.printer;
     }
 }
 
 // One byte more than an input may have tells one that is too long.
 fn main() {
     let mut space = [0u8; listing::MOST_INPUT + 1];
-    let n = io::read_full(STDIN_FILENO, &mut space);
-    if listing::MOST_INPUT < n {
-        refused(words::LENGTH);
-    } else {
-        run(&space[..n]);
+    let input = read_input(&mut space);
+    if !input.whole {
+        os::fail(b"open: standard input");
+        return;
     }
+    let count = input.count;
+    print(&space[..count]);
 }
