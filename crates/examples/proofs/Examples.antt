@@ -3,13 +3,28 @@ use mathlib.Core.Path.{_≡_, refl}
 use mathlib.Core.List.{map}
 use Rattle.words.specs.Word.{addW, subW, negW, mulW, allInWidth}
 use Rattle.words.specs.Params.{paramsOk}
-use Rattle.words.specs.Signed.{meaning}
+use Rattle.words.specs.Refusal.{first, unless, firstOf}
+use Rattle.words.specs.Signed.{meaning, signedOf}
 use Rattle.galois.specs.Element.{lower, product, inverse}
 use Rattle.codewords.specs.Codeword.{errorSet}
 use Rattle.sharing.specs.Dealing.{dealt}
 use Rattle.sharing.specs.Opening.{lent, opening}
+use Rattle.records.specs.Num.{part, leNum, leAt}
+use Rattle.records.specs.Layout.{recordSize, headKind, headLen, wordSize, jobLenOf, fileSize}
+use Rattle.records.specs.Record.{lenAt, kindAt, framed, headingOf}
+use Rattle.bundle.specs.Bundle.{rangesOk, holderOk, sameParams, belongs, numOf, headingFault, jobFaultAt, prevNum, jobFault, fileFaultAt}
+use Rattle.bundle.specs.Bundle.{placeAt, prevHolder, filesIn, faultOfFile, filesFault, bundleFault, jobAt}
+use Rattle.bundle.specs.Contents.{wordsFrom, wordsOf}
+use Rattle.totals.specs.Values.{valuesFrom, every}
+use Rattle.archive.specs.Archive.{placeOpening}
+use Rattle.text.specs.Text.{openLine, declinedLine}
+use Rattle.listing.specs.Listing.{listingOf}
 use Rattle.examples.specs.Examples.{answer, table}
 
 pub examples-hold : map (λ e. answer (e .asked)) table ≡ map (λ e. e .expected) table
 unfolding answer product inverse lower meaning addW subW negW mulW allInWidth paramsOk dealt opening lent errorSet
+    first unless firstOf part leNum leAt recordSize headKind headLen wordSize jobLenOf fileSize lenAt kindAt framed headingOf
+    rangesOk holderOk sameParams belongs numOf headingFault jobFaultAt prevNum jobFault fileFaultAt
+    placeAt prevHolder filesIn faultOfFile filesFault bundleFault jobAt
+    wordsFrom wordsOf valuesFrom every placeOpening signedOf openLine declinedLine listingOf
 examples-hold = refl

@@ -1,6 +1,6 @@
 -- The marked examples of paper 01, "Bench examples", as a table of questions with their answers. What is asked is what the contracts cite.
 -- Assumes nothing.
-use mathlib.Core.List.{List, [], _∷_}
+use mathlib.Core.List.{List, [], _∷_, _++_}
 use Prim.Native.Nat.{ℕ, _-_, _^_}
 use lib.IntN.{ℤ, pos, negℤ}
 use Rattle.words.specs.Signed.{meaning}
@@ -10,6 +10,8 @@ use Rattle.codewords.specs.Codeword.{Share}
 use Rattle.codewords.specs.Opening.{Opening, declines, opens, secretInto, wrongOf}
 use Rattle.sharing.specs.Dealing.{dealt}
 use Rattle.sharing.specs.Opening.{lent, opening}
+use Rattle.text.specs.Text.{ascii}
+use Rattle.listing.specs.Listing.{listingOf}
 
 pub data Question : Type 0 where
   -- k, d and two elements
@@ -22,6 +24,8 @@ pub data Question : Type 0 where
   dealingOf : Params → List ℕ → List ℕ → Question
   -- parameters, holders, their shares and e
   openingOf : Params → List ℕ → List ℕ → ℕ → Question
+  -- the bytes of the program's input
+  printedFor : List ℕ → Question
 
 pub data Answer : Type 0 where
   words : List ℕ → Answer
@@ -30,6 +34,8 @@ pub data Answer : Type 0 where
   refused : ℕ → Answer
   -- the set of the wrong holders, and the job
   opened : ℕ → List ℕ → Answer
+  -- the bytes of the program's output
+  text : List ℕ → Answer
 
 abbrev pub told : Params → List Share → Opening → Answer
 told p ss (declines c) = refused c
@@ -41,6 +47,7 @@ answer (inverseOf k d a) = words (inverse k d a)
 answer (readingOf k w) = integer (meaning k w)
 answer (dealingOf p secret coefficients) = words (dealt p secret coefficients)
 answer (openingOf p hs ws e) = told p (lent (p .d) hs ws) (opening p hs ws e (p .d) 1)
+answer (printedFor bs) = text (listingOf bs)
 
 pub record Example : Type 0 where
   pub asked : Question
@@ -49,6 +56,33 @@ pub record Example : Type 0 where
 -- "With k 3, d 2, n 3", and t
 abbrev pub bench : ℕ → Params
 bench t = record { k = 3; d = 2; n = 3; t = t }
+
+-- "Input of 256 bytes: e = 1; k 3, d 2, n 3, t 0, archive 7, jobs 10 and 11", a row for each record: length, kind and body
+abbrev pub eightBytes : ℕ → List ℕ
+eightBytes n = n ∷ 0 ∷ 0 ∷ 0 ∷ 0 ∷ 0 ∷ 0 ∷ 0 ∷ []
+
+abbrev pub order : ℕ → List ℕ
+order e = 3 ∷ 0 ∷ 0 ∷ 0 ∷ 16 ∷ 0 ∷ e ∷ []
+
+abbrev pub heading : ℕ → List ℕ
+heading holder = (19 ∷ 0 ∷ 0 ∷ 0 ∷ 1 ∷ 0 ∷ 3 ∷ 2 ∷ 3 ∷ 0 ∷ holder ∷ []) ++ eightBytes 7 ++ (2 ∷ 0 ∷ 0 ∷ 0 ∷ [])
+
+abbrev pub job : ℕ → ℕ → ℕ → List ℕ
+job number first second = (26 ∷ 0 ∷ 0 ∷ 0 ∷ 2 ∷ 0 ∷ []) ++ eightBytes number ++ eightBytes first ++ eightBytes second
+
+-- "Job 10: (5,2), (5,2), (1,2). Job 11: (5,2), (1,2), (7,2)."
+abbrev pub sample : List ℕ
+sample =
+    order 1
+    ++ heading 1
+    ++ job 10 5 2
+    ++ job 11 5 2
+    ++ heading 2
+    ++ job 10 5 2
+    ++ job 11 1 2
+    ++ heading 3
+    ++ job 10 1 2
+    ++ job 11 7 2
 
 abbrev pub table : List Example
 table =
@@ -72,6 +106,8 @@ table =
     ∷ record { asked = openingOf (bench 0) (1 ∷ 2 ∷ 3 ∷ []) (5 ∷ 2 ∷ 5 ∷ 2 ∷ 1 ∷ 2 ∷ []) 1; expected = opened 4 (5 ∷ 2 ∷ []) }
     -- M10: all agree modulo 2, and there is no codeword
     ∷ record { asked = openingOf (bench 0) (1 ∷ 2 ∷ 3 ∷ []) (5 ∷ 2 ∷ 1 ∷ 2 ∷ 7 ∷ 2 ∷ []) 1; expected = refused 6 }
+    -- M9 and M10 as the program prints them
+    ∷ record { asked = printedFor sample; expected = text (ascii "job state wrong words\n10 open 3 -3,2\n11 6 - -\n") }
     -- M11: X³ times X
     ∷ record {
       asked = productOf 64 4 (0 ∷ 0 ∷ 0 ∷ 1 ∷ []) (0 ∷ 1 ∷ 0 ∷ 0 ∷ []);
