@@ -1,14 +1,13 @@
 -- What accepting an input gives, and which piece of its text that makes each. Assumes nothing.
 use mathlib.Core.Path.{_≡_, refl, sym, ap, _∙_}
-use mathlib.Core.Bool.{cond}
 use mathlib.Core.List.{List, []}
 use Prim.Native.Nat.{ℕ, zero, suc, _-_, _≤_, _<_}
 use native.Mathlib.Nat.{not-suc-le-zero}
 use native.Mathlib.Omega.{arith}
 use borrow.Author.Tests.{le-ltb, lt-ltb}
-use lib.Dec.{leb, ltb}
+use lib.Dec.{leb}
 use lib.ListN.{length}
-use Rattle.words.specs.Refusal.{first, unless, LENGTH}
+use Rattle.words.specs.Refusal.{unless, LENGTH}
 use Rattle.words.proofs.Refusal.{first-right, kept-none}
 use Rattle.records.specs.declared.Heading.{Heading}
 use Rattle.bundle.specs.Bundle.{bundleFault, bundleHeading, filesOf, noHeading, accepted}

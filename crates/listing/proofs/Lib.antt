@@ -3,3 +3,4 @@ pub mod Whole
 pub mod OneLine
 pub mod Input
 pub mod Pieces
+pub mod Fits

@@ -3,16 +3,15 @@
 use mathlib.Core.Path.{_≡_, refl, sym, ap, ap₂, _∙_}
 use mathlib.Core.List.{List, [], _++_, map, append-assoc, append-nil}
 use Prim.Native.Nat.{ℕ, zero, suc, _+_, _-_, _≤_, _<_, min}
-use native.Mathlib.Nat.{not-suc-le-zero}
 use native.Mathlib.Decide.{decLe}
 use native.Mathlib.Omega.{arith}
 use borrow.Author.Tests.{le-ltb, lt-ltb}
 use lib.ListN.{length, getD, length-append}
 use Rattle.words.specs.Refusal.{kept}
-use Rattle.codewords.specs.Opening.{Opening, declines, opens}
-use Rattle.codewords.specs.Codeword.{Share, errorSet}
 use Rattle.words.specs.Signed.{signedOf}
 use Rattle.words.specs.declared.Params.{Params}
+use Rattle.codewords.specs.Codeword.{Share, errorSet}
+use Rattle.codewords.specs.Opening.{Opening, declines, opens}
 use Rattle.bundle.specs.Bundle.{bundleHeading, paramsOf, numOf, jobAt, mostJobs}
 use Rattle.bundle.specs.declared.Accepted.{Accepted}
 use Rattle.bundle.proofs.Bundles.{bundle-ok, bundle-ranges}

@@ -1,7 +1,7 @@
 // Reads a bundle from standard input and prints a line for each of its jobs, or the number that it is refused with.
 //
-// What is printed is a beginning of the input's listing, and all of it unless standard error says that writing failed. Where reading fails
-// nothing is printed. Of the bytes that pass through `read` and `write` no contract speaks.
+// What stands on standard output is a beginning of the input's listing, and all of it unless standard error says that writing failed. Where
+// reading fails nothing is printed. That `read` and `write` move the bytes that they say they move is assumed: no contract can speak of it.
 ghost use Prim.Native.Nat.{_<_};
 ghost use lib.ListN.{length};
 ghost use Rattle.io.specs.Counts.{Counts};
@@ -13,13 +13,13 @@ use libc::STDOUT_FILENO;
 // million tries a second, for half a million years.
 const TRIES: u64 = 18446744073709551615;
 
-// What was read: how many bytes, and whether the input then ended, or the space was full, and reading had not failed.
+// What was read: how many bytes, and whether that is all, to the end of the input or of the space, and no read failed.
 struct Input {
     count: usize,
     whole: bool,
 }
 
-// Whether a read or a write that gave no byte is worth another try.
+// Whether a read or a write that moved no byte is worth another try; where it was not ready, others run first.
 fn may_retry(answer: isize) -> bool {
     if 0 <= answer {
         return false;

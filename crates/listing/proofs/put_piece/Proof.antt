@@ -1,6 +1,6 @@
 -- `put_piece`: `refused N`, the first line, the line of a place, or nothing, by what accepting the input gave. Assumes nothing.
 use borrow.Author.Needs.{needs}
-use mathlib.Core.Path.{_≡_, sym, ap, _∙_}
+use mathlib.Core.Path.{sym, ap, _∙_}
 use mathlib.Core.List.{List}
 use Prim.Native.Nat.{ℕ}
 use native.Mathlib.Omega.{arith}
@@ -32,14 +32,16 @@ returns c =
     let a = s .args .accepted in
     let p = c .before .before .put-refused in
     wrote-line (old s) _ (piece (bs s) (s .args .i)) (refusedLine (a .fault)) (p .result)
-    (piece-refused (bs s) a (s .pre .0) (c .before .before .before .before .before .if1 .taken) (s .args .i) (c .before .before .before .before .if2 .taken))
+    (piece-refused (bs s) a (s .pre .0) (c .before .before .before .before .before .if1 .taken) (s .args .i)
+    (c .before .before .before .before .if2 .taken))
     (p .ensures) (refused-length (a .fault) (omega arith))
 
 returns-2 : tie.Need-returns-2
 returns-2 c =
     let s = c .before .before .before .before .before in
     let a = s .args .accepted in
-    wrote-none (old s) (piece (bs s) (s .args .i)) (piece-refused-end (bs s) a (s .pre .0) (c .before .if1 .taken) (s .args .i) (c .if2 .left))
+    wrote-none (old s) (piece (bs s) (s .args .i))
+    (piece-refused-end (bs s) a (s .pre .0) (c .before .if1 .taken) (s .args .i) (c .if2 .left))
 
 put-head-requires : tie.Need-put-head-requires
 put-head-requires c κs = search needs
@@ -53,14 +55,16 @@ returns-3 c =
     let a = s .args .accepted in
     let p = c .before .before .put-head in
     wrote-line (old s) _ (piece (bs s) (s .args .i)) headLine (p .result)
-    (piece-head (bs s) a (s .pre .0) (c .before .before .before .before .before .if1 .left) (s .args .i) (c .before .before .before .before .if3 .taken))
+    (piece-head (bs s) a (s .pre .0) (c .before .before .before .before .before .if1 .left) (s .args .i)
+    (c .before .before .before .before .if3 .taken))
     (p .ensures) (omega arith)
 
 returns-4 : tie.Need-returns-4
 returns-4 c =
     let s = c .before .before .before .before .before .before .before .before in
     let a = s .args .accepted in
-    wrote-none (old s) (piece (bs s) (s .args .i)) (piece-end (bs s) a (s .pre .0) (c .before .before .before .before .if1 .left) (s .args .i) (c .if4 .taken))
+    wrote-none (old s) (piece (bs s) (s .args .i))
+    (piece-end (bs s) a (s .pre .0) (c .before .before .before .before .if1 .left) (s .args .i) (c .if4 .taken))
 
 sub-put-line : tie.Need-sub-put-line
 sub-put-line c = search needs
