@@ -102,7 +102,7 @@ fn too_long() -> Accepted
     }
 }
 
-// Accepts an input; one that is too long before any record is looked at.
+// Accepts an input. One that is too long is refused before any record is looked at.
 pub fn accept_input(bytes: &[u8]) -> Accepted
     ensures { λ r. ⌜ r ≡ acceptedInput (now (bytes .entry)) ⌝ }
 {
@@ -121,7 +121,7 @@ pub fn start(bytes: &[u8]) -> Printer
 }
 
 // Writes a piece of an input's text from the start of a lent buffer, and gives its size: 0 past the last.
-pub fn put_piece(bytes: &[u8], accepted: Accepted, i: usize, line: &mut [u8]) -> usize
+fn put_piece(bytes: &[u8], accepted: Accepted, i: usize, line: &mut [u8]) -> usize
     requires { ⌜ (accepted ≡ acceptedInput (now bytes)) × (lineRoom ≤ length (now line)) ⌝ }
     ensures { λ r. ⌜ (now (line .exit) ≡ written 0 (piece (now (bytes .entry)) i) (now (line .entry)))
         × (r ≡ length (piece (now (bytes .entry)) i)) × (r ≤ lineRoom) ⌝ }
