@@ -74,14 +74,17 @@ module _ (bs : List ℕ) (b : Bytes bs) where
       ap₂ _++_ (leBytes-leAt w bs at b (omega arith)) (words w n (at + w) (omega arith))
       ∙ join bs at w (at + w) (w * n) (w * suc n) refl (omega arith)
 
-  job : (h : Heading) (at : ℕ) → Frame bs jobKind (jobLen h) at → jobBytes h (jobFrom h bs at) ≡ part at (jobSize h) bs
-  unfolding jobBytes jobBody jobFrom jobLenOf recordSize bodySize numOf
-  job h at f =
+  pub job-part : (h : Heading) (at : ℕ) → Frame bs jobKind (jobLen h) at → jobBody h (jobFrom h bs at) ≡ part (bodyAt at) (bodySize (jobLen h)) bs
+  unfolding jobBody jobFrom jobLenOf recordSize bodySize numOf
+  job-part h at f =
       let w = f .within in
       let d = h .params .d in
-      rec jobKind (jobLen h) at _ f (omega arith)
-      (ap₂ _++_ (leBytes-leAt 8 bs (bodyAt at) b (omega arith)) (words (wordSize h) d (wordsAt at) (omega arith))
-      ∙ join bs (bodyAt at) 8 (wordsAt at) (wordSize h * d) (10 + wordSize h * d - 2) (omega arith) (omega arith))
+      ap₂ _++_ (leBytes-leAt 8 bs (bodyAt at) b (omega arith)) (words (wordSize h) d (wordsAt at) (omega arith))
+      ∙ join bs (bodyAt at) 8 (wordsAt at) (wordSize h * d) (10 + wordSize h * d - 2) (omega arith) (omega arith)
+
+  job : (h : Heading) (at : ℕ) → Frame bs jobKind (jobLen h) at → jobBytes h (jobFrom h bs at) ≡ part at (jobSize h) bs
+  unfolding jobBytes jobLenOf
+  job h at f = rec jobKind (jobLen h) at (jobBody h (jobFrom h bs at)) f (omega arith) (job-part h at f)
 
   jobs : (h : Heading) (n at : ℕ) → ((p : ℕ) → p < n → Frame bs jobKind (jobLen h) (at + p * jobSize h)) →
       jobsBytes h (jobsFrom h bs n at) ≡ part at (n * jobSize h) bs
@@ -94,9 +97,9 @@ module _ (bs : List ℕ) (b : Bytes bs) where
       ∙ join bs at (jobSize h) (at + jobSize h) (n * jobSize h) (suc n * jobSize h) refl (omega arith)
 
   -- a file with no fault
-  pub file : (base prev at : ℕ) → fileFaultAt bs base prev at ≡ 0 → fileBytes (fileFrom bs at) ≡ part at (fileSize (headingOf bs at)) bs
+  pub file-part : (base prev at : ℕ) → fileFaultAt bs base prev at ≡ 0 → fileBytes (fileFrom bs at) ≡ part at (fileSize (headingOf bs at)) bs
   unfolding fileBytes fileFrom fileSize jobFault
-  file base prev at e =
+  file-part base prev at e =
       let k = file-ok bs base prev at e in
       let h = headingOf bs at in
       let s = headSize h in
@@ -128,7 +131,7 @@ module _ (bs : List ℕ) (b : Bytes bs) where
   file-written e =
       let s = fileSize (headingOf bs 0) in
       let l : length bs ≡ s = eqb-true (length bs) s (unless-held _ 7 (lit< tt) (first-right (fileFaultAt bs 0 0 0) _ e)) in
-      file 0 0 0 (first-left (fileFaultAt bs 0 0 0) _ e) ∙ ap (λ (n : ℕ). part 0 n bs) (sym l) ∙ part-all bs
+      file-part 0 0 0 (first-left (fileFaultAt bs 0 0 0) _ e) ∙ ap (λ (n : ℕ). part 0 n bs) (sym l) ∙ part-all bs
 
   -- an accepted bundle is what the writer writes of it
   pub bundle-written : bundleFault bs ≡ 0 → bundleBytes (bundleFrom bs) ≡ bs
@@ -139,6 +142,6 @@ module _ (bs : List ℕ) (b : Bytes bs) where
       let s = fileSize h in
       ap₂ _++_ (order (a .order))
       (files s (filesOf bs) orderSize
-      (λ f l. file orderSize (prevHolder bs orderSize f) (orderSize + f * s) (a .files .none f l)
+      (λ f l. file-part orderSize (prevHolder bs orderSize f) (orderSize + f * s) (a .files .none f l)
       ∙ ap (λ (n : ℕ). part (orderSize + f * s) n bs) (sym (same-file h (headingOf bs (orderSize + f * s)) (same-at bs orderSize (a .files) f l)))))
       ∙ join bs 0 orderSize orderSize (filesOf bs * s) (length bs) refl (sym (a .files .ends)) ∙ part-all bs

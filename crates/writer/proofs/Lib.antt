@@ -8,3 +8,5 @@ pub mod Calls
 pub mod Undo
 pub mod Shift
 pub mod Orders
+pub mod ByPlace
+pub mod AreBytes

@@ -1,3 +1,4 @@
 pub mod Bytes
 pub mod Write
 pub mod Fits
+pub mod ByPlace
