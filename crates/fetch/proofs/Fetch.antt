@@ -3,6 +3,7 @@
 use mathlib.Core.Path.{_≡_, refl, sym, ap, ap₂, _∙_}
 use Prim.Native.Nat.{ℕ, zero, suc, _+_, _-_, _≤_, _<_}
 use native.Mathlib.Omega.{arith}
+use native.Mathlib.Decide.{decLe}
 use mathlib.Core.List.{List, [], _∷_}
 use mathlib.Core.Bool.{Bool, true, false, cond}
 use lib.ListN.{length, getD, set}
@@ -21,7 +22,7 @@ use Rattle.fetch.specs.Fetch.{findFrom, fileOf, holderFault, placeFault,
 use Rattle.records.specs.Record.{headingOf}
 use Rattle.records.proofs.Num.{part-length}
 use Rattle.records.proofs.Lengths.{job-length-low}
-use Rattle.bundle.proofs.Bundles.{bundle-ok, job-within, accept-fault, accept-none, accept-files, accept-heading}
+use Rattle.bundle.proofs.Bundles.{bundle-ok, holders-rise, job-within, accept-fault, accept-none, accept-files, accept-heading}
 
 -- ---- a search
 
@@ -47,6 +48,16 @@ find-holds t (suc n) i h =
     bool-cases (t i) (λ e. rw (e, e))
     (λ e. (let s : cond (t i) i (findFrom t n (i + 1)) ≡ findFrom t n (i + 1) = rw e in
     rw s (find-holds t n (i + 1) (omega (arith, s)))))
+
+-- the first place that passes the test
+pub find-first : (t : ℕ → Bool) (n i j : ℕ) → i ≤ j → j < i + n → t j ≡ true → ((m : ℕ) → i ≤ m → m < j → t m ≡ false) → findFrom t n i ≡ j
+unfolding findFrom
+find-first t zero i j l u e f = absurd (omega arith)
+find-first t (suc n) i j l u e f =
+    elim (decLe (suc i) j) [
+      | yes m ↦ (rw (f i (omega arith) m) (find-first t n (i + 1) j (omega arith) (omega arith) e (λ x a b. f x (omega arith) b)))
+      | no m ↦ (let z : i ≡ j = omega arith in let y : t i ≡ true = ap t z ∙ e in rw y z)
+    ]
 
 -- ---- the file of a holder
 
@@ -93,6 +104,13 @@ module _ (bs : List ℕ) (holder f at : ℕ) (j : FindAt bs holder f at) where
 pub file-holder : (bs : List ℕ) (holder : ℕ) → fileOf bs holder < filesOf bs → holderOf bs (fileOf bs holder) ≡ holder
 unfolding fileOf
 file-holder bs holder h = eqb-true _ _ (find-holds (holds bs holder) (filesOf bs) 0 (omega arith))
+
+-- and the file of a file's holder is that file: no other has the same
+pub holder-file : (bs : List ℕ) → bundleFault bs ≡ 0 → (f : ℕ) → f < filesOf bs → fileOf bs (holderOf bs f) ≡ f
+unfolding fileOf
+holder-file bs z f l =
+    find-first (holds bs (holderOf bs f)) (filesOf bs) 0 f (omega arith) (omega arith) (eq-eqb (holderOf bs f) (holderOf bs f) refl)
+    (λ m a b. ne-eqb (holderOf bs m) (holderOf bs f) (λ q. omega (arith, q, holders-rise bs orderSize (bundle-ok bs z .files) m f b l)))
 
 -- ---- the refusals: what none of them says, and where there is none
 

@@ -31,7 +31,7 @@ words-length bs f p = words-count (wordSize (bundleHeading bs)) bs (paramsOf bs 
 pub padded : (d : ℕ) (e : Element) → length e ≡ d → e ++ drop d (replicate 6 0) ≡ held d e
 padded d e h = ap (λ (l : Element). l ++ drop d (replicate 6 0)) (sym (take-all d e (le-of-eq h)))
 
-width-append : (k : ℕ) (a b : Element) → allInWidth k (a ++ b) ≡ (allInWidth k a && allInWidth k b)
+pub width-append : (k : ℕ) (a b : Element) → allInWidth k (a ++ b) ≡ (allInWidth k a && allInWidth k b)
 unfolding allInWidth
 width-append k [] b = refl
 width-append k (x ∷ a) b = ap (λ (r : Bool). inWidth k x && r) (width-append k a b) ∙ assoc (inWidth k x) (allInWidth k a) (allInWidth k b)

@@ -1,0 +1,163 @@
+-- Shares got by the call of totals from each holder of a bundle, and lent with those holders and the bundle's e, open to what opening the run gives
+-- (`totals-open`); so a run that opens to a total is opened to it from the holders' totals alone (`totals-open-to`). Assumes nothing.
+use mathlib.Core.Path.{_≡_, refl, sym, ap, ap₂, _∙_}
+use mathlib.Core.Bool.{true}
+use mathlib.Core.List.{List, _∷_}
+use Prim.Native.Nat.{ℕ, zero, suc, _+_, _-_, _*_, _≤_, _<_}
+use native.Mathlib.Omega.{arith}
+use lib.Dec.{leb, ltb}
+use lib.ListN.{length, length-append}
+use lib.Seq.{take-at, drop-at}
+use borrow.Author.Tests.{le-leb, lt-ltb}
+use Rattle.words.specs.Faults.{paramsFault, lengthFault}
+use Rattle.words.specs.Refusal.{first, unless, HOLDER, WIDE-WORD}
+use Rattle.words.specs.Word.{allInWidth}
+use Rattle.words.proofs.Faults.{clear-params, clear-length, clear-width}
+use Rattle.words.proofs.Refusal.{first-none, unless-yes, pass}
+use Rattle.words.proofs.Tests.{and-both}
+use Rattle.galois.specs.Element.{Element}
+use Rattle.codewords.specs.Codeword.{Share, Polynomial}
+use Rattle.codewords.specs.Opening.{Opening, secretInto, wrongInto, unlessFault, answerTo}
+use Rattle.codewords.proofs.Opening.{unless-none}
+use Rattle.sharing.specs.Dealt.{OpensTo}
+use Rattle.sharing.specs.Opening.{lent, risingTo, lentFault, opening}
+use Rattle.records.specs.Layout.{orderSize}
+use Rattle.bundle.specs.Bundle.{bundleFault, bundleHeading, paramsOf, allowanceOf, filesOf, holderOf}
+use Rattle.bundle.proofs.Bundles.{bundle-ok, bundle-ranges, holders-rise}
+use Rattle.fetch.specs.Fetch.{runFault}
+use Rattle.fetch.proofs.Fetch.{holder-file, run-none}
+use Rattle.totals.specs.Total.{runTotal, runInWidth, totalFault, totalWords}
+use Rattle.totals.specs.Values.{valuesFrom}
+use Rattle.totals.proofs.Totals.{TotalClear, total-clear, total-words}
+use Rattle.totals.proofs.Values.{values-count, every-all}
+use Rattle.totals.proofs.Words.{width-append}
+use Rattle.archive.specs.Archive.{shareBy, sharesOver, filesInWidth, runOpening, openingFault, openRun}
+use Rattle.archive.specs.Dealt.{RunOpensTo}
+use Rattle.archive.proofs.Shares.{holder-range, total-element}
+use Rattle.promises.specs.Totals.{holdersOf, totalsOf}
+
+module _ (bs : List ℕ) (z : bundleFault bs ≡ 0) (a b : ℕ) (old : ℕ → List ℕ)
+    (taken : (f : ℕ) → f < filesOf bs → totalFault bs (holderOf bs f) a b (length (old (holderOf bs f))) ≡ 0) where
+  abbrev k : ℕ
+  k = paramsOf bs .k
+
+  abbrev d : ℕ
+  d = paramsOf bs .d
+
+  abbrev own : ℕ → Element
+  own f = runTotal bs f a (b - a)
+
+  clear : (f : ℕ) → f < filesOf bs → TotalClear bs (holderOf bs f) a b (length (old (holderOf bs f)))
+  clear f l = total-clear bs (holderOf bs f) a b (length (old (holderOf bs f))) (taken f l)
+
+  -- each total is that of the holder's file
+  one : (f : ℕ) → f < filesOf bs → totalWords bs (holderOf bs f) a b (old (holderOf bs f)) ≡ own f
+  one f l = total-words bs (holderOf bs f) a b (old (holderOf bs f)) (taken f l) ∙ ap own (holder-file bs z f l)
+
+  -- of the n files from i on: their shares, how many words, and that these are in width
+  abbrev lot : ℕ → ℕ → List ℕ
+  lot i n = totalsOf bs a b old (valuesFrom (holderOf bs) i n)
+
+  lot-shares : (i n : ℕ) → i + n ≤ filesOf bs → lent d (valuesFrom (holderOf bs) i n) (lot i n) ≡ valuesFrom (shareBy bs own) i n
+  unfolding lent valuesFrom totalsOf
+  lot-shares i zero h = refl
+  lot-shares i (suc n) h =
+      let t = totalWords bs (holderOf bs i) a b (old (holderOf bs i)) in
+      let e : t ≡ own i = one i (omega arith) in
+      let l : length t ≡ d = ap length e ∙ total-element bs i a (b - a) .0 in
+      ap₂ (λ (x : Element) (ws : List ℕ). record { holder = holderOf bs i; words = x } ∷ lent d (valuesFrom (holderOf bs) (suc i) n) ws)
+      (take-at t (lot (suc i) n) d l ∙ e) (drop-at t (lot (suc i) n) d l)
+      ∙ ap (λ (ss : List Share). shareBy bs own i ∷ ss) (lot-shares (suc i) n (omega arith))
+
+  lot-length : (i n : ℕ) → i + n ≤ filesOf bs → length (lot i n) ≡ n * d
+  unfolding valuesFrom totalsOf
+  lot-length i zero h = omega arith
+  lot-length i (suc n) h =
+      let t = totalWords bs (holderOf bs i) a b (old (holderOf bs i)) in
+      length-append t (lot (suc i) n)
+      ∙ ap₂ _+_ (ap length (one i (omega arith)) ∙ total-element bs i a (b - a) .0) (lot-length (suc i) n (omega arith))
+      ∙ omega arith
+
+  lot-width : (i n : ℕ) → i + n ≤ filesOf bs → allInWidth k (lot i n) ≡ true
+  unfolding valuesFrom totalsOf allInWidth
+  lot-width i zero h = refl
+  lot-width i (suc n) h =
+      let t = totalWords bs (holderOf bs i) a b (old (holderOf bs i)) in
+      width-append k t (lot (suc i) n)
+      ∙ and-both _ _ (ap (allInWidth k) (one i (omega arith)) ∙ total-element bs i a (b - a) .1) (lot-width (suc i) n (omega arith))
+
+  -- holders rise from 1 to n
+  lot-rises : (prev i n : ℕ) → i + n ≤ filesOf bs → ((f : ℕ) → i ≤ f → f < i + n → prev < holderOf bs f) →
+      risingTo (paramsOf bs .n) prev (valuesFrom (holderOf bs) i n) ≡ true
+  unfolding valuesFrom risingTo
+  lot-rises prev i zero h g = refl
+  lot-rises prev i (suc n) h g =
+      let x = holderOf bs i in
+      and-both (ltb prev x) _ (lt-ltb prev x (g i (omega arith) (omega arith)))
+      (and-both (leb x (paramsOf bs .n)) _ (le-leb x (paramsOf bs .n) (holder-range bs z i (omega arith) .1))
+      (lot-rises x (suc i) n (omega arith)
+      (λ f u v. holders-rise bs orderSize (bundle-ok bs z .files) i f (omega arith) (omega arith))))
+
+  abbrev hs : List ℕ
+  hs = holdersOf bs
+
+  abbrev ws : List ℕ
+  ws = totalsOf bs a b old (holdersOf bs)
+
+  -- all refusals but those of the outputs are none, of the lent totals and of the run
+  last : (x : ℕ) → first x 0 ≡ x
+  unfolding first
+  last zero = refl
+  last (suc x) = refl
+
+  lent-outputs : (n w : ℕ) → lentFault (paramsOf bs) hs ws n w ≡ first (lengthFault d n) (lengthFault 1 w)
+  unfolding lentFault
+  lent-outputs n w =
+      let m = filesOf bs in
+      let c : length hs ≡ m = values-count (holderOf bs) 0 m in
+      first-none (paramsFault (paramsOf bs)) _ (clear-params (paramsOf bs) (bundle-ranges bs (bundle-ok bs z) .book))
+      ∙ first-none (lengthFault (length hs * d) (length ws)) _
+      (clear-length (length hs * d) (length ws) (lot-length 0 m (omega arith) ∙ ap (λ (x : ℕ). x * d) (sym c)))
+      ∙ ap (λ (x : ℕ). first (lengthFault d n) (first (lengthFault 1 w) x))
+      (pass (risingTo (paramsOf bs .n) 0 hs) HOLDER _ (lot-rises 0 0 m (omega arith) (λ f u v. holder-range bs z f (omega arith) .0))
+      ∙ clear-width k ws (lot-width 0 m (omega arith)))
+      ∙ ap (first (lengthFault d n)) (last (lengthFault 1 w))
+
+  run-outputs : (n w : ℕ) → openingFault bs n w (runFault (bundleHeading bs) a b) ≡ first (lengthFault d n) (lengthFault 1 w)
+  unfolding openingFault
+  run-outputs n w =
+      let c = clear 0 (omega (arith, bundle-ok bs z .files .some)) in
+      first-none (bundleFault bs) _ z
+      ∙ ap (λ (x : ℕ). first (lengthFault d n) (first (lengthFault 1 w) x)) (run-none (bundleHeading bs) a b (c .low) (c .high))
+      ∙ ap (first (lengthFault d n)) (last (lengthFault 1 w))
+
+  in-width : filesInWidth bs a (b - a) ≡ true
+  in-width =
+      every-all (λ f. runInWidth bs f a (b - a)) (filesOf bs)
+      (λ f l. ap (λ (x : ℕ). runInWidth bs x a (b - a)) (sym (holder-file bs z f l)) ∙ clear f l .width)
+
+  -- the lent shares are those of the run, and they open to what it opens to, whatever the outputs are
+  pub totals-open : (n w : ℕ) →
+      (lent (paramsOf bs .d) (holdersOf bs) (totalsOf bs a b old (holdersOf bs)) ≡ sharesOver bs a (b - a))
+      × (opening (paramsOf bs) (holdersOf bs) (totalsOf bs a b old (holdersOf bs)) (allowanceOf bs) n w ≡ openRun bs a b n w)
+  unfolding opening openRun runOpening
+  totals-open n w =
+      let shares = lot-shares 0 (filesOf bs) (omega arith) in
+      let p = paramsOf bs in
+      let e = allowanceOf bs in (
+        shares,
+        ap₂ unlessFault (lent-outputs n w) (ap (answerTo p e) shares)
+            ∙ sym (ap₂ unlessFault (run-outputs n w)
+            (unless-none (unless (filesInWidth bs a (b - a)) WIDE-WORD) (answerTo p e (sharesOver bs a (b - a)))
+            (unless-yes (filesInWidth bs a (b - a)) WIDE-WORD in-width))),
+      )
+
+  pub totals-open-to : (q : Polynomial) (s : Element) (x : ℕ) → RunOpensTo bs a b (paramsOf bs .d) 1 q s x →
+      OpensTo (paramsOf bs) (holdersOf bs) (totalsOf bs a b old (holdersOf bs)) (allowanceOf bs) q s x
+  totals-open-to q s x g =
+      let t = totals-open d 1 in
+      record {
+        opened = t .1 ∙ g .opened;
+        secret = λ was. ap (secretInto was) (t .1) ∙ g .secret was;
+        wrong = λ was. ap₂ (λ (ss : List Share) (o : Opening). wrongInto k d ss was o) (t .0) (t .1) ∙ g .wrong was;
+      }

@@ -1,0 +1,1 @@
+// Theorems over several calls, end to end: mathematics only.
