@@ -1,2 +1,4 @@
 pub mod Fetched
 pub mod Totals
+pub mod Written
+pub mod Opened

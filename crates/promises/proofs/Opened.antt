@@ -1,0 +1,273 @@
+-- Jobs that are dealt, written and bundled by the calls open by the calls. Each theorem asks that the calls of the writers returned 0, that there are
+-- t + 1 + 2e files or more, and that the jobs are dealt. Where up to e holders have something else at a place, the job opens to what was dealt, and
+-- exactly these holders are named (`written-place-opens`); over a run, where the totals of up to e holders are changed, it opens to the sum of the
+-- jobs and names exactly these (`written-run-opens`). Where the files have what was dealt nobody is named (`dealt-place-opens`,
+-- `dealt-total-opens`). Assumes nothing.
+use mathlib.Core.Path.{_≡_, refl, sym, ap, ap₂, subst, _∙_}
+use mathlib.Core.Bool.{Bool, not}
+use mathlib.Core.List.{List, [], _∷_, _++_}
+use Prim.Native.Nat.{ℕ, zero, suc, _+_, _-_, _*_, _^_, _≤_, _<_}
+use native.Mathlib.Nat.{not-suc-le-zero, le-of-mul-le-mul-right, le-of-eq}
+use native.Mathlib.Omega.{arith}
+use lib.Count.{ones}
+use lib.ListN.{length, getD, take, drop, length-append}
+use lib.Seq.{take-at, drop-append-add}
+use Rattle.algebra.specs.Shares.{All}
+use Rattle.algebra.proofs.Shares.{all-map, all-map₂, all-at}
+use Rattle.words.specs.declared.Params.{Params}
+use Rattle.words.specs.Word.{allInWidth}
+use Rattle.words.proofs.InRange.{InRange}
+use Rattle.galois.specs.Element.{Element, point, same}
+use Rattle.galois.proofs.Elements.{same-refl}
+use Rattle.codewords.specs.Codeword.{Share, Polynomial, value, when, differs, errorSet}
+use Rattle.codewords.specs.Demand.{Decides}
+use Rattle.codewords.specs.Opening.{Opening, opens, secretInto, wrongInto}
+use Rattle.codewords.specs.WellFormed.{IsPoly}
+use Rattle.codewords.proofs.ErrorSet.{ones-errors}
+use Rattle.codewords.proofs.Value.{rows-of}
+use Rattle.sharing.specs.Dealing.{dealing, dealt}
+use Rattle.sharing.specs.Dealt.{Job}
+use Rattle.sharing.proofs.Dealt.{share-length, share-at}
+use Rattle.sharing.proofs.DealtOpens.{dealing-poly}
+use Rattle.bundle.specs.Bundle.{bundleFault, paramsOf, allowanceOf, filesOf}
+use Rattle.bundle.specs.Contents.{wordsOf}
+use Rattle.totals.specs.Total.{sumTo, runTotal}
+use Rattle.totals.proofs.Sums.{sum-same}
+use Rattle.totals.proofs.Values.{every-all}
+use Rattle.archive.specs.Archive.{sharesBy, sharesAt, sharesOver, openPlace, openRun}
+use Rattle.archive.specs.Clear.{PlaceClear, RunClear}
+use Rattle.archive.specs.Dealt.{sumPolys, BundleOpensTo, PlaceOpensTo, RunOpensTo}
+use Rattle.archive.proofs.Opens.{place-decides, run-decides}
+use Rattle.archive.proofs.Shares.{shares-holders, of-width}
+use Rattle.archive.proofs.Sums.{sums-poly, value-sums, free-sums}
+use Rattle.promises.specs.Written.{Deals, dealingOf, shareOf, sharesOf, atPlace, Archive, wordsIn, writtenBundle, FileWritten, Written}
+use Rattle.promises.specs.Written.{EnoughFiles, HoldsShares, changedHolders, changedAt, changedOver}
+use Rattle.promises.proofs.Written.{sharesWith, no-fault, reads, params-is, jobs-is, enough-files, holder-good, words-count, range}
+use Rattle.promises.proofs.Written.{one-file, read-width, shares-at, shares-over}
+
+-- ---- shares within e of a polynomial open to it
+
+near-opens : (bs : List ℕ) → bundleFault bs ≡ 0 → (v : ℕ → Element) (o : Opening) → Decides (paramsOf bs) (allowanceOf bs) (sharesBy bs v) o →
+    (q : Polynomial) → IsPoly (paramsOf bs .k) (paramsOf bs .d) (paramsOf bs .t) q → (s : Element) → getD q 0 [] ≡ s → (x : ℕ) →
+    errorSet (paramsOf bs .k) (paramsOf bs .d) q (sharesBy bs v) ≡ x → ones x ≤ allowanceOf bs → BundleOpensTo bs (sharesBy bs v) o q s x
+near-opens bs z v o decides q poly s free x e few =
+    let k = paramsOf bs .k in
+    let d = paramsOf bs .d in
+    let ss = sharesBy bs v in
+    let good = shares-holders bs z v in
+    let count = ones-errors k d q ss (all-map (λ (r : Share) y. y .0) ss (good .0)) (good .1) in
+    let found : o ≡ opens q = decides .finds q (record { poly = poly; near = rw (← count, e) few }) in
+    record {
+      opened = found;
+      secret = λ old. ap (secretInto old) found ∙ free;
+      wrong = λ old. ap (wrongInto k d ss old) found ∙ ap (λ (w : ℕ). w ∷ []) e;
+    }
+
+-- ---- who differs is who is changed
+
+errors-changed : (k d : ℕ) (q : Polynomial) (v : ℕ → Element) (hs : List ℕ) →
+    errorSet k d q (sharesWith v hs) ≡ changedHolders (λ h. value k d q (point d h)) v hs
+unfolding errorSet differs changedHolders
+errors-changed k d q v [] = refl
+errors-changed k d q v (h ∷ hs) =
+    ap (λ (n : ℕ). when (not (same (v h) (value k d q (point d h)))) (2 ^ (h - 1)) + n) (errors-changed k d q v hs)
+
+changed-same : (u v is : ℕ → Element) (hs : List ℕ) → All (λ h. u h ≡ v h) hs → changedHolders u is hs ≡ changedHolders v is hs
+unfolding changedHolders
+changed-same u v is [] e = refl
+changed-same u v is (h ∷ hs) e =
+    ap₂ (λ (x : Element) (n : ℕ). when (not (same (is h) x)) (2 ^ (h - 1)) + n) (e .0) (changed-same u v is hs (e .1))
+
+none-changed : (u is : ℕ → Element) (hs : List ℕ) → All (λ h. is h ≡ u h) hs → changedHolders u is hs ≡ 0
+unfolding changedHolders
+none-changed u is [] e = refl
+none-changed u is (h ∷ hs) e =
+    ap₂ (λ (b : Bool) (n : ℕ). when (not b) (2 ^ (h - 1)) + n) (ap (λ (x : Element). same x (u h)) (e .0) ∙ same-refl (u h))
+    (none-changed u is hs (e .1))
+
+no-ones : ones 0 ≡ 0
+unfolding ones
+no-ones = refl
+
+-- ---- dealt jobs
+
+module _ (p : Params) (r : InRange p) (j : Job) (deals : Deals p j) where
+  poly-of : IsPoly (p .k) (p .d) (p .t) (dealingOf p j)
+  poly-of = dealing-poly p (j .secret) (j .coefficients) (deals .n) (deals .no-fault)
+
+  -- a holder's share is the value at its point
+  share-value : (h : ℕ) → 1 ≤ h → h ≤ p .n → shareOf p j h ≡ value (p .k) (p .d) (dealingOf p j) (point (p .d) h)
+  unfolding dealt
+  share-value h l u =
+      let e : 1 + (h - 1) ≡ h = omega arith in
+      let q = dealingOf p j in
+      share-at (p .k) (p .d) (r .d-low) (r .d-high) q (rows-of (p .k) (p .d) (p .t) q poly-of) (p .n) 1 (h - 1) (omega arith)
+      ∙ ap (λ (i : ℕ). value (p .k) (p .d) q (point (p .d) i)) e
+
+  one-share-length : (h : ℕ) → 1 ≤ h → h ≤ p .n → length (shareOf p j h) ≡ p .d
+  one-share-length h l u =
+      let q = dealingOf p j in
+      ap length (share-value h l u) ∙ share-length (p .k) (p .d) (r .d-low) (r .d-high) q (rows-of (p .k) (p .d) (p .t) q poly-of) h
+
+  free-of : getD (dealingOf p j) 0 [] ≡ j .secret
+  unfolding dealing
+  free-of = refl
+
+-- the shares of several jobs, by their places
+module _ (p : Params) (r : InRange p) (h : ℕ) (l : 1 ≤ h) (u : h ≤ p .n) where
+  shares-length : (js : List Job) → All (Deals p) js → length (sharesOf p js h) ≡ length js * p .d
+  unfolding sharesOf
+  shares-length [] deal = omega arith
+  shares-length (j ∷ js) deal =
+      length-append (shareOf p j h) (sharesOf p js h)
+      ∙ ap₂ _+_ (one-share-length p r j (deal .0) h l u) (shares-length js (deal .1)) ∙ omega arith
+
+  share-no : (js : List Job) → All (Deals p) js → (i : ℕ) → i < length js →
+      take (p .d) (drop (i * p .d) (sharesOf p js h)) ≡ shareOf p (atPlace js i) h
+  unfolding sharesOf
+  share-no [] deal i v = absurd (not-suc-le-zero v)
+  share-no (j ∷ js) deal zero v =
+      let e : 0 * p .d ≡ 0 = omega arith in
+      rw e (take-at (shareOf p j h) (sharesOf p js h) (p .d) (one-share-length p r j (deal .0) h l u))
+  share-no (j ∷ js) deal (suc i) v =
+      let n = one-share-length p r j (deal .0) h l u in
+      let e : suc i * p .d ≡ length (shareOf p j h) + i * p .d = omega arith in
+      ap (λ (m : ℕ). take (p .d) (drop m (shareOf p j h ++ sharesOf p js h))) e
+      ∙ ap (take (p .d)) (drop-append-add (shareOf p j h) (sharesOf p js h) (i * p .d))
+      ∙ share-no js (deal .1) i (omega arith)
+
+-- ---- the theorems
+
+module _ (a : Archive) (w : Written a) where
+  abbrev p : Params
+  p = a .params
+
+  abbrev bs : List ℕ
+  bs = writtenBundle a
+
+  poly-read : (q : Polynomial) → IsPoly (p .k) (p .d) (p .t) q → IsPoly (paramsOf bs .k) (paramsOf bs .d) (paramsOf bs .t) q
+  poly-read q x = subst (λ (m : Params). IsPoly (m .k) (m .d) (m .t) q) (sym (params-is a w)) x
+
+  d-read : p .d ≡ paramsOf bs .d
+  d-read = ap (λ (m : Params). m .d) (sym (params-is a w))
+
+  place-clear : (i : ℕ) → i < length (a .numbers) → PlaceClear bs i (p .d) 1
+  place-clear i u =
+      record {
+        no-fault = no-fault a w;
+        output = d-read;
+        wrong-output = refl;
+        place = omega (arith, jobs-is a w);
+        width = every-all (λ f. allInWidth (paramsOf bs .k) (wordsOf bs f i)) (filesOf bs) (λ f l. read-width a w f i l u);
+      }
+
+  run-clear : (x y : ℕ) → x ≤ y → y ≤ length (a .numbers) → RunClear bs x y (p .d) 1
+  run-clear x y l u =
+      record {
+        no-fault = no-fault a w;
+        output = d-read;
+        wrong-output = refl;
+        low = l;
+        high = omega (arith, jobs-is a w);
+        width = of-width bs x (y - x) (λ f i m v. read-width a w f (x + i) m (omega arith));
+      }
+
+  holders-good : All (λ h. (1 ≤ h) × (h ≤ p .n)) (a .holders)
+  holders-good = all-map (λ h x. holder-good a w h x) (a .holders) (w .files)
+
+  -- up to e holders have something else at a place
+  pub written-place-opens : EnoughFiles a → (j : Job) → Deals (a .params) j → (i : ℕ) → i < length (a .numbers) →
+      ones (changedAt a j i) ≤ a .allowance →
+      PlaceOpensTo (writtenBundle a) i (a .params .d) 1 (dealingOf (a .params) j) (j .secret) (changedAt a j i)
+  written-place-opens m j deals i u few =
+      let q = dealingOf p j in
+      let r = range a w in
+      let e : errorSet (paramsOf bs .k) (paramsOf bs .d) q (sharesAt bs i) ≡ changedAt a j i =
+      ap₂ (λ (m : Params) (ss : List Share). errorSet (m .k) (m .d) q ss) (params-is a w) (shares-at a w i u)
+      ∙ errors-changed (p .k) (p .d) q (wordsIn a i) (a .holders)
+      ∙ changed-same (λ h. value (p .k) (p .d) q (point (p .d) h)) (shareOf p j) (wordsIn a i) (a .holders)
+      (all-map (λ h x. sym (share-value p r j deals h (x .0) (x .1))) (a .holders) holders-good) in
+      near-opens bs (no-fault a w) (λ f. wordsOf bs f i) (openPlace bs i (p .d) 1)
+      (place-decides bs i (p .d) 1 (place-clear i u) (enough-files a w m)) q (poly-read q (poly-of p r j deals)) (j .secret) (free-of p r j deals)
+      (changedAt a j i) e (rw (reads a w .allowance) few)
+
+  -- the totals of up to e holders over a run are changed
+  pub written-run-opens : EnoughFiles a → (j : ℕ → Job) (x y : ℕ) → x ≤ y → y ≤ length (a .numbers) →
+      ((i : ℕ) → i < y - x → Deals (a .params) (j i)) → ones (changedOver a j x (y - x)) ≤ a .allowance →
+      RunOpensTo (writtenBundle a) x y (a .params .d) 1
+      (sumPolys (a .params .k) (a .params .d) (a .params .t) (λ i. dealingOf (a .params) (j i)) (y - x))
+      (sumTo (a .params .k) (a .params .d) (λ i. j i .secret) (y - x)) (changedOver a j x (y - x))
+  written-run-opens m j x y l u deals few =
+      let n = y - x in
+      let r = range a w in
+      let one : ℕ → Polynomial = λ i. dealingOf p (j i) in
+      let polys : (i : ℕ) → i < n → IsPoly (p .k) (p .d) (p .t) (one i) = λ i v. poly-of p r (j i) (deals i v) in
+      let q = sumPolys (p .k) (p .d) (p .t) one n in
+      let held : ℕ → Element = λ h. sumTo (p .k) (p .d) (λ i. wordsIn a (x + i) h) n in
+      let should : ℕ → Element = λ h. sumTo (p .k) (p .d) (λ i. shareOf p (j i) h) n in
+      let e : errorSet (paramsOf bs .k) (paramsOf bs .d) q (sharesOver bs x n) ≡ changedOver a j x n =
+      ap₂ (λ (m : Params) (ss : List Share). errorSet (m .k) (m .d) q ss) (params-is a w) (shares-over a w x n (omega arith))
+      ∙ errors-changed (p .k) (p .d) q held (a .holders)
+      ∙ changed-same (λ h. value (p .k) (p .d) q (point (p .d) h)) should held (a .holders)
+      (all-map (λ h g. value-sums (p .k) (p .d) (p .t) one (r .d-low) (r .d-high) n polys h
+      ∙ sum-same (p .k) (p .d) (λ i. value (p .k) (p .d) (one i) (point (p .d) h)) (λ i. shareOf p (j i) h) n
+      (λ i v. sym (share-value p r (j i) (deals i v) h (g .0) (g .1)))) (a .holders) holders-good) in
+      near-opens bs (no-fault a w) (λ f. runTotal bs f x n) (openRun bs x y (p .d) 1)
+      (run-decides bs x y (p .d) 1 (run-clear x y l u) (enough-files a w m)) q (poly-read q (sums-poly (p .k) (p .d) (p .t) one n polys))
+      (sumTo (p .k) (p .d) (λ i. j i .secret) n)
+      (free-sums (p .k) (p .d) (p .t) one n polys
+      ∙ sum-same (p .k) (p .d) (λ i. getD (one i) 0 []) (λ i. j i .secret) n (λ i v. free-of p r (j i) (deals i v)))
+      (changedOver a j x n) e (rw (reads a w .allowance) few)
+
+  -- ---- files that have what was dealt
+
+  module _ (js : List Job) (deals : All (Deals (a .params)) js) (holds : HoldsShares a js) where
+    -- a job for each number
+    jobs-count : length js ≡ length (a .numbers)
+    jobs-count =
+        let h = getD (a .holders) 0 0 in
+        let one = one-file a w in
+        let x = all-at (FileWritten a) (a .holders) 0 0 (w .files) one in
+        let g = holder-good a w h x in
+        let r = range a w in
+        let e : length js * p .d ≡ length (a .numbers) * p .d =
+        sym (shares-length p r h (g .0) (g .1) js deals)
+        ∙ ap length (sym (all-at (λ (i : ℕ). a .words i ≡ sharesOf p js i) (a .holders) 0 0 holds one)) ∙ words-count a w h x in
+        let low : 0 < p .d = omega (arith, r .d-low) in
+        let le : length js ≤ length (a .numbers) = le-of-mul-le-mul-right {k = p .d} (le-of-eq e) low in
+        let ge : length (a .numbers) ≤ length js = le-of-mul-le-mul-right {k = p .d} (le-of-eq (sym e)) low in
+        omega arith
+
+    deals-at : (i : ℕ) → i < length (a .numbers) → Deals p (atPlace js i)
+    deals-at i u = all-at (Deals p) js i _ deals (omega (arith, jobs-count))
+
+    -- each holder has at each place its share of the job
+    words-share : (i : ℕ) → i < length (a .numbers) → (h : ℕ) → (1 ≤ h) × (h ≤ p .n) → a .words h ≡ sharesOf p js h →
+        wordsIn a i h ≡ shareOf p (atPlace js i) h
+    words-share i u h g e =
+        ap (λ (ws : List ℕ). take (p .d) (drop (i * p .d) ws)) e
+        ∙ share-no p (range a w) h (g .0) (g .1) js deals i (omega (arith, jobs-count))
+
+    pub dealt-place-opens : EnoughFiles a → (i : ℕ) → i < length (a .numbers) →
+        PlaceOpensTo (writtenBundle a) i (a .params .d) 1 (dealingOf (a .params) (atPlace js i)) (atPlace js i .secret) 0
+    dealt-place-opens m i u =
+        let j = atPlace js i in
+        let none : changedAt a j i ≡ 0 =
+        none-changed (shareOf p j) (wordsIn a i) (a .holders) (all-map₂ (words-share i u) (a .holders) holders-good holds) in
+        subst (PlaceOpensTo bs i (p .d) 1 (dealingOf p j) (j .secret)) none
+        (written-place-opens m j (deals-at i u) i u (rw (none, no-ones) (omega arith)))
+
+    pub dealt-total-opens : EnoughFiles a → (x y : ℕ) → x ≤ y → y ≤ length (a .numbers) →
+        RunOpensTo (writtenBundle a) x y (a .params .d) 1
+        (sumPolys (a .params .k) (a .params .d) (a .params .t) (λ i. dealingOf (a .params) (atPlace js (x + i))) (y - x))
+        (sumTo (a .params .k) (a .params .d) (λ i. atPlace js (x + i) .secret) (y - x)) 0
+    dealt-total-opens m x y l u =
+        let n = y - x in
+        let j : ℕ → Job = λ i. atPlace js (x + i) in
+        let none : changedOver a j x n ≡ 0 =
+        none-changed (λ h. sumTo (p .k) (p .d) (λ i. shareOf p (j i) h) n) (λ h. sumTo (p .k) (p .d) (λ i. wordsIn a (x + i) h) n) (a .holders)
+        (all-map₂ (λ h (g : (1 ≤ h) × (h ≤ p .n)) (e : a .words h ≡ sharesOf p js h).
+        sum-same (p .k) (p .d) (λ i. wordsIn a (x + i) h) (λ i. shareOf p (j i) h) n (λ i v. words-share (x + i) (omega arith) h g e))
+        (a .holders) holders-good holds) in
+        subst (RunOpensTo bs x y (p .d) 1 (sumPolys (p .k) (p .d) (p .t) (λ i. dealingOf p (j i)) n) (sumTo (p .k) (p .d) (λ i. j i .secret) n)) none
+        (written-run-opens m j x y l u (λ i v. deals-at (x + i) (omega arith)) (rw (none, no-ones) (omega arith)))
