@@ -1,4 +1,6 @@
 pub mod Fetched
 pub mod Totals
+pub mod Jobs
 pub mod Written
 pub mod Opened
+pub mod OwnTotals

@@ -4,31 +4,23 @@
 -- jobs and names exactly these (`written-run-opens`). Where the files have what was dealt nobody is named (`dealt-place-opens`,
 -- `dealt-total-opens`). Assumes nothing.
 use mathlib.Core.Path.{_≡_, refl, sym, ap, ap₂, subst, _∙_}
-use mathlib.Core.Bool.{Bool, not}
-use mathlib.Core.List.{List, [], _∷_, _++_}
-use Prim.Native.Nat.{ℕ, zero, suc, _+_, _-_, _*_, _^_, _≤_, _<_}
-use native.Mathlib.Nat.{not-suc-le-zero, le-of-mul-le-mul-right, le-of-eq}
+use mathlib.Core.List.{List, [], _∷_}
+use Prim.Native.Nat.{ℕ, _+_, _-_, _*_, _≤_, _<_}
+use native.Mathlib.Nat.{le-of-mul-le-mul-right, le-of-eq}
 use native.Mathlib.Omega.{arith}
 use lib.Count.{ones}
-use lib.ListN.{length, getD, take, drop, length-append}
-use lib.Seq.{take-at, drop-append-add}
+use lib.ListN.{length, getD, take, drop}
 use Rattle.algebra.specs.Shares.{All}
 use Rattle.algebra.proofs.Shares.{all-map, all-map₂, all-at}
 use Rattle.words.specs.declared.Params.{Params}
 use Rattle.words.specs.Word.{allInWidth}
-use Rattle.words.proofs.InRange.{InRange}
-use Rattle.galois.specs.Element.{Element, point, same}
-use Rattle.galois.proofs.Elements.{same-refl}
-use Rattle.codewords.specs.Codeword.{Share, Polynomial, value, when, differs, errorSet}
+use Rattle.galois.specs.Element.{Element, point}
+use Rattle.codewords.specs.Codeword.{Share, Polynomial, value, errorSet}
 use Rattle.codewords.specs.Demand.{Decides}
 use Rattle.codewords.specs.Opening.{Opening, opens, secretInto, wrongInto}
 use Rattle.codewords.specs.WellFormed.{IsPoly}
 use Rattle.codewords.proofs.ErrorSet.{ones-errors}
-use Rattle.codewords.proofs.Value.{rows-of}
-use Rattle.sharing.specs.Dealing.{dealing, dealt}
 use Rattle.sharing.specs.Dealt.{Job}
-use Rattle.sharing.proofs.Dealt.{share-length, share-at}
-use Rattle.sharing.proofs.DealtOpens.{dealing-poly}
 use Rattle.bundle.specs.Bundle.{bundleFault, paramsOf, allowanceOf, filesOf}
 use Rattle.bundle.specs.Contents.{wordsOf}
 use Rattle.totals.specs.Total.{sumTo, runTotal}
@@ -39,10 +31,11 @@ use Rattle.archive.specs.Clear.{PlaceClear, RunClear}
 use Rattle.archive.specs.Dealt.{sumPolys, BundleOpensTo, PlaceOpensTo, RunOpensTo}
 use Rattle.archive.proofs.Opens.{place-decides, run-decides}
 use Rattle.archive.proofs.Shares.{shares-holders, of-width}
-use Rattle.archive.proofs.Sums.{sums-poly, value-sums, free-sums}
 use Rattle.promises.specs.Written.{Deals, dealingOf, shareOf, sharesOf, atPlace, Archive, wordsIn, writtenBundle, FileWritten, Written}
-use Rattle.promises.specs.Written.{EnoughFiles, HoldsShares, changedHolders, changedAt, changedOver}
-use Rattle.promises.proofs.Written.{sharesWith, no-fault, reads, params-is, jobs-is, enough-files, holder-good, words-count, range}
+use Rattle.promises.specs.Written.{EnoughFiles, HoldsShares, changedAt, changedOver}
+use Rattle.promises.proofs.Jobs.{errors-changed, changed-same, none-changed, no-ones, poly-of, share-value, free-of, shares-length, share-no}
+use Rattle.promises.proofs.Jobs.{sum-poly, sum-free, sum-value}
+use Rattle.promises.proofs.Written.{no-fault, reads, params-is, jobs-is, enough-files, holder-good, words-count, range}
 use Rattle.promises.proofs.Written.{one-file, read-width, shares-at, shares-over}
 
 -- ---- shares within e of a polynomial open to it
@@ -62,79 +55,6 @@ near-opens bs z v o decides q poly s free x e few =
       secret = λ old. ap (secretInto old) found ∙ free;
       wrong = λ old. ap (wrongInto k d ss old) found ∙ ap (λ (w : ℕ). w ∷ []) e;
     }
-
--- ---- who differs is who is changed
-
-errors-changed : (k d : ℕ) (q : Polynomial) (v : ℕ → Element) (hs : List ℕ) →
-    errorSet k d q (sharesWith v hs) ≡ changedHolders (λ h. value k d q (point d h)) v hs
-unfolding errorSet differs changedHolders
-errors-changed k d q v [] = refl
-errors-changed k d q v (h ∷ hs) =
-    ap (λ (n : ℕ). when (not (same (v h) (value k d q (point d h)))) (2 ^ (h - 1)) + n) (errors-changed k d q v hs)
-
-changed-same : (u v is : ℕ → Element) (hs : List ℕ) → All (λ h. u h ≡ v h) hs → changedHolders u is hs ≡ changedHolders v is hs
-unfolding changedHolders
-changed-same u v is [] e = refl
-changed-same u v is (h ∷ hs) e =
-    ap₂ (λ (x : Element) (n : ℕ). when (not (same (is h) x)) (2 ^ (h - 1)) + n) (e .0) (changed-same u v is hs (e .1))
-
-none-changed : (u is : ℕ → Element) (hs : List ℕ) → All (λ h. is h ≡ u h) hs → changedHolders u is hs ≡ 0
-unfolding changedHolders
-none-changed u is [] e = refl
-none-changed u is (h ∷ hs) e =
-    ap₂ (λ (b : Bool) (n : ℕ). when (not b) (2 ^ (h - 1)) + n) (ap (λ (x : Element). same x (u h)) (e .0) ∙ same-refl (u h))
-    (none-changed u is hs (e .1))
-
-no-ones : ones 0 ≡ 0
-unfolding ones
-no-ones = refl
-
--- ---- dealt jobs
-
-module _ (p : Params) (r : InRange p) (j : Job) (deals : Deals p j) where
-  poly-of : IsPoly (p .k) (p .d) (p .t) (dealingOf p j)
-  poly-of = dealing-poly p (j .secret) (j .coefficients) (deals .n) (deals .no-fault)
-
-  -- a holder's share is the value at its point
-  share-value : (h : ℕ) → 1 ≤ h → h ≤ p .n → shareOf p j h ≡ value (p .k) (p .d) (dealingOf p j) (point (p .d) h)
-  unfolding dealt
-  share-value h l u =
-      let e : 1 + (h - 1) ≡ h = omega arith in
-      let q = dealingOf p j in
-      share-at (p .k) (p .d) (r .d-low) (r .d-high) q (rows-of (p .k) (p .d) (p .t) q poly-of) (p .n) 1 (h - 1) (omega arith)
-      ∙ ap (λ (i : ℕ). value (p .k) (p .d) q (point (p .d) i)) e
-
-  one-share-length : (h : ℕ) → 1 ≤ h → h ≤ p .n → length (shareOf p j h) ≡ p .d
-  one-share-length h l u =
-      let q = dealingOf p j in
-      ap length (share-value h l u) ∙ share-length (p .k) (p .d) (r .d-low) (r .d-high) q (rows-of (p .k) (p .d) (p .t) q poly-of) h
-
-  free-of : getD (dealingOf p j) 0 [] ≡ j .secret
-  unfolding dealing
-  free-of = refl
-
--- the shares of several jobs, by their places
-module _ (p : Params) (r : InRange p) (h : ℕ) (l : 1 ≤ h) (u : h ≤ p .n) where
-  shares-length : (js : List Job) → All (Deals p) js → length (sharesOf p js h) ≡ length js * p .d
-  unfolding sharesOf
-  shares-length [] deal = omega arith
-  shares-length (j ∷ js) deal =
-      length-append (shareOf p j h) (sharesOf p js h)
-      ∙ ap₂ _+_ (one-share-length p r j (deal .0) h l u) (shares-length js (deal .1)) ∙ omega arith
-
-  share-no : (js : List Job) → All (Deals p) js → (i : ℕ) → i < length js →
-      take (p .d) (drop (i * p .d) (sharesOf p js h)) ≡ shareOf p (atPlace js i) h
-  unfolding sharesOf
-  share-no [] deal i v = absurd (not-suc-le-zero v)
-  share-no (j ∷ js) deal zero v =
-      let e : 0 * p .d ≡ 0 = omega arith in
-      rw e (take-at (shareOf p j h) (sharesOf p js h) (p .d) (one-share-length p r j (deal .0) h l u))
-  share-no (j ∷ js) deal (suc i) v =
-      let n = one-share-length p r j (deal .0) h l u in
-      let e : suc i * p .d ≡ length (shareOf p j h) + i * p .d = omega arith in
-      ap (λ (m : ℕ). take (p .d) (drop m (shareOf p j h ++ sharesOf p js h))) e
-      ∙ ap (take (p .d)) (drop-append-add (shareOf p j h) (sharesOf p js h) (i * p .d))
-      ∙ share-no js (deal .1) i (omega arith)
 
 -- ---- the theorems
 
@@ -200,24 +120,16 @@ module _ (a : Archive) (w : Written a) where
   written-run-opens m j x y l u deals few =
       let n = y - x in
       let r = range a w in
-      let one : ℕ → Polynomial = λ i. dealingOf p (j i) in
-      let polys : (i : ℕ) → i < n → IsPoly (p .k) (p .d) (p .t) (one i) = λ i v. poly-of p r (j i) (deals i v) in
-      let q = sumPolys (p .k) (p .d) (p .t) one n in
+      let q = sumPolys (p .k) (p .d) (p .t) (λ i. dealingOf p (j i)) n in
       let held : ℕ → Element = λ h. sumTo (p .k) (p .d) (λ i. wordsIn a (x + i) h) n in
-      let should : ℕ → Element = λ h. sumTo (p .k) (p .d) (λ i. shareOf p (j i) h) n in
       let e : errorSet (paramsOf bs .k) (paramsOf bs .d) q (sharesOver bs x n) ≡ changedOver a j x n =
-      ap₂ (λ (m : Params) (ss : List Share). errorSet (m .k) (m .d) q ss) (params-is a w) (shares-over a w x n (omega arith))
+      ap₂ (λ (o : Params) (ss : List Share). errorSet (o .k) (o .d) q ss) (params-is a w) (shares-over a w x n (omega arith))
       ∙ errors-changed (p .k) (p .d) q held (a .holders)
-      ∙ changed-same (λ h. value (p .k) (p .d) q (point (p .d) h)) should held (a .holders)
-      (all-map (λ h g. value-sums (p .k) (p .d) (p .t) one (r .d-low) (r .d-high) n polys h
-      ∙ sum-same (p .k) (p .d) (λ i. value (p .k) (p .d) (one i) (point (p .d) h)) (λ i. shareOf p (j i) h) n
-      (λ i v. sym (share-value p r (j i) (deals i v) h (g .0) (g .1)))) (a .holders) holders-good) in
+      ∙ changed-same (λ h. value (p .k) (p .d) q (point (p .d) h)) (λ h. sumTo (p .k) (p .d) (λ i. shareOf p (j i) h) n) held (a .holders)
+      (all-map (λ h g. sum-value p r j n deals h (g .0) (g .1)) (a .holders) holders-good) in
       near-opens bs (no-fault a w) (λ f. runTotal bs f x n) (openRun bs x y (p .d) 1)
-      (run-decides bs x y (p .d) 1 (run-clear x y l u) (enough-files a w m)) q (poly-read q (sums-poly (p .k) (p .d) (p .t) one n polys))
-      (sumTo (p .k) (p .d) (λ i. j i .secret) n)
-      (free-sums (p .k) (p .d) (p .t) one n polys
-      ∙ sum-same (p .k) (p .d) (λ i. getD (one i) 0 []) (λ i. j i .secret) n (λ i v. free-of p r (j i) (deals i v)))
-      (changedOver a j x n) e (rw (reads a w .allowance) few)
+      (run-decides bs x y (p .d) 1 (run-clear x y l u) (enough-files a w m)) q (poly-read q (sum-poly p r j n deals))
+      (sumTo (p .k) (p .d) (λ i. j i .secret) n) (sum-free p r j n deals) (changedOver a j x n) e (rw (reads a w .allowance) few)
 
   -- ---- files that have what was dealt
 
@@ -238,12 +150,12 @@ module _ (a : Archive) (w : Written a) where
         let ge : length (a .numbers) ≤ length js = le-of-mul-le-mul-right {k = p .d} (le-of-eq (sym e)) low in
         omega arith
 
-    deals-at : (i : ℕ) → i < length (a .numbers) → Deals p (atPlace js i)
+    pub deals-at : (i : ℕ) → i < length (a .numbers) → Deals (a .params) (atPlace js i)
     deals-at i u = all-at (Deals p) js i _ deals (omega (arith, jobs-count))
 
     -- each holder has at each place its share of the job
-    words-share : (i : ℕ) → i < length (a .numbers) → (h : ℕ) → (1 ≤ h) × (h ≤ p .n) → a .words h ≡ sharesOf p js h →
-        wordsIn a i h ≡ shareOf p (atPlace js i) h
+    pub words-share : (i : ℕ) → i < length (a .numbers) → (h : ℕ) → (1 ≤ h) × (h ≤ a .params .n) → a .words h ≡ sharesOf (a .params) js h →
+        wordsIn a i h ≡ shareOf (a .params) (atPlace js i) h
     words-share i u h g e =
         ap (λ (ws : List ℕ). take (p .d) (drop (i * p .d) ws)) e
         ∙ share-no p (range a w) h (g .0) (g .1) js deals i (omega (arith, jobs-count))

@@ -56,7 +56,7 @@ module _ (bs : List ℕ) (z : bundleFault bs ≡ 0) (a b : ℕ) (old : ℕ → L
 
   -- of the n files from i on: their shares, how many words, and that these are in width
   abbrev lot : ℕ → ℕ → List ℕ
-  lot i n = totalsOf bs a b old (valuesFrom (holderOf bs) i n)
+  lot i n = totalsOf (λ h. bs) a b old (valuesFrom (holderOf bs) i n)
 
   lot-shares : (i n : ℕ) → i + n ≤ filesOf bs → lent d (valuesFrom (holderOf bs) i n) (lot i n) ≡ valuesFrom (shareBy bs own) i n
   unfolding lent valuesFrom totalsOf
@@ -102,7 +102,7 @@ module _ (bs : List ℕ) (z : bundleFault bs ≡ 0) (a b : ℕ) (old : ℕ → L
   hs = holdersOf bs
 
   abbrev ws : List ℕ
-  ws = totalsOf bs a b old (holdersOf bs)
+  ws = totalsOf (λ h. bs) a b old (holdersOf bs)
 
   -- all refusals but those of the outputs are none, of the lent totals and of the run
   last : (x : ℕ) → first x 0 ≡ x
@@ -138,8 +138,8 @@ module _ (bs : List ℕ) (z : bundleFault bs ≡ 0) (a b : ℕ) (old : ℕ → L
 
   -- the lent shares are those of the run, and they open to what it opens to, whatever the outputs are
   pub totals-open : (n w : ℕ) →
-      (lent (paramsOf bs .d) (holdersOf bs) (totalsOf bs a b old (holdersOf bs)) ≡ sharesOver bs a (b - a))
-      × (opening (paramsOf bs) (holdersOf bs) (totalsOf bs a b old (holdersOf bs)) (allowanceOf bs) n w ≡ openRun bs a b n w)
+      (lent (paramsOf bs .d) (holdersOf bs) (totalsOf (λ h. bs) a b old (holdersOf bs)) ≡ sharesOver bs a (b - a))
+      × (opening (paramsOf bs) (holdersOf bs) (totalsOf (λ h. bs) a b old (holdersOf bs)) (allowanceOf bs) n w ≡ openRun bs a b n w)
   unfolding opening openRun runOpening
   totals-open n w =
       let shares = lot-shares 0 (filesOf bs) (omega arith) in
@@ -153,7 +153,7 @@ module _ (bs : List ℕ) (z : bundleFault bs ≡ 0) (a b : ℕ) (old : ℕ → L
       )
 
   pub totals-open-to : (q : Polynomial) (s : Element) (x : ℕ) → RunOpensTo bs a b (paramsOf bs .d) 1 q s x →
-      OpensTo (paramsOf bs) (holdersOf bs) (totalsOf bs a b old (holdersOf bs)) (allowanceOf bs) q s x
+      OpensTo (paramsOf bs) (holdersOf bs) (totalsOf (λ h. bs) a b old (holdersOf bs)) (allowanceOf bs) q s x
   totals-open-to q s x g =
       let t = totals-open d 1 in
       record {

@@ -14,7 +14,6 @@ use Rattle.words.specs.declared.Params.{Params}
 use Rattle.words.proofs.InRange.{InRange}
 use Rattle.words.proofs.Refusal.{first-left}
 use Rattle.galois.specs.Element.{Element}
-use Rattle.codewords.specs.Codeword.{Share}
 use Rattle.sharing.proofs.Lent.{width-take, width-drop}
 use Rattle.bundle.specs.Bundle.{bundleFault, bundleHeading, paramsOf, filesOf, holderOf}
 use Rattle.bundle.specs.Contents.{Job, File, Bundle, wordsOf}
@@ -36,10 +35,7 @@ use Rattle.writer.proofs.Orders.{order-fault}
 use Rattle.writer.proofs.Undo.{file-for-fits}
 use Rattle.promises.specs.Written.{Archive, wordsIn, fileWith, filesWith, writtenBundle, FileWritten, Written}
 use Rattle.promises.specs.Written.{EnoughFiles}
-
--- shares under holders
-abbrev pub sharesWith : (ℕ → Element) → List ℕ → List Share
-sharesWith v = map (λ h. record { holder = h; words = v h })
+use Rattle.promises.proofs.Jobs.{sharesWith}
 
 -- values at the places of a list
 values-map : {A : Type 0} (g : ℕ → A) (v : ℕ → A) (l : List ℕ) (i : ℕ) → ((j : ℕ) → j < length l → g (i + j) ≡ v (getD l j 0)) →
@@ -128,7 +124,7 @@ module _ (a : Archive) (w : Written a) where
       reads .jobs 0 (in-files 0 one-file)
       ∙ ap (λ (g : File). length (g .jobs)) (file-is 0 one-file) ∙ jobs-count (p .d) (a .numbers) (a .words (getD hs 0 0))
 
-  holder-is : (f : ℕ) → f < length hs → holderOf bs f ≡ getD hs f 0
+  pub holder-is : (f : ℕ) → f < length (a .holders) → holderOf (writtenBundle a) f ≡ getD (a .holders) f 0
   unfolding fileFor headingFor
   holder-is f l = reads .holder f (in-files f l) ∙ ap (λ (g : File). g .heading .holder) (file-is f l)
 
@@ -182,11 +178,14 @@ module _ (a : Archive) (w : Written a) where
   pub shares-at : (i : ℕ) → i < length (a .numbers) → sharesAt (writtenBundle a) i ≡ sharesWith (wordsIn a i) (a .holders)
   shares-at i u = shares-by (λ f. wordsOf bs f i) (wordsIn a i) (λ f l. words-are f i l u)
 
+  pub total-is : (f x n : ℕ) → f < length (a .holders) → x + n ≤ length (a .numbers) →
+      runTotal (writtenBundle a) f x n ≡ sumTo (a .params .k) (a .params .d) (λ i. wordsIn a (x + i) (getD (a .holders) f 0)) n
+  total-is f x n l u =
+      ap (λ (q : Params). sumTo (q .k) (q .d) (λ i. wordsOf bs f (x + i)) n) params-is
+      ∙ sum-same (p .k) (p .d) (λ i. wordsOf bs f (x + i)) (λ i. wordsIn a (x + i) (getD hs f 0)) n (λ i v. words-are f (x + i) l (omega arith))
+
   pub shares-over : (x n : ℕ) → x + n ≤ length (a .numbers) →
       sharesOver (writtenBundle a) x n
       ≡ sharesWith (λ h. sumTo (a .params .k) (a .params .d) (λ i. wordsIn a (x + i) h) n) (a .holders)
   shares-over x n u =
-      shares-by (λ f. runTotal bs f x n) (λ h. sumTo (p .k) (p .d) (λ i. wordsIn a (x + i) h) n)
-      (λ f l.
-      ap (λ (q : Params). sumTo (q .k) (q .d) (λ i. wordsOf bs f (x + i)) n) params-is
-      ∙ sum-same (p .k) (p .d) (λ i. wordsOf bs f (x + i)) (λ i. wordsIn a (x + i) (getD hs f 0)) n (λ i v. words-are f (x + i) l (omega arith)))
+      shares-by (λ f. runTotal bs f x n) (λ h. sumTo (p .k) (p .d) (λ i. wordsIn a (x + i) h) n) (λ f l. total-is f x n l u)
