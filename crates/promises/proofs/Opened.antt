@@ -1,12 +1,13 @@
--- Jobs that are dealt, written and bundled by the calls open by the calls. Each theorem asks that the calls of the writers returned 0, that there are
--- t + 1 + 2e files or more, and that the jobs are dealt. Where up to e holders have something else at a place, the job opens to what was dealt, and
--- exactly these holders are named (`written-place-opens`); over a run, where the totals of up to e holders are changed, it opens to the sum of the
--- jobs and names exactly these (`written-run-opens`). Where the files have what was dealt nobody is named (`dealt-place-opens`,
--- `dealt-total-opens`). Assumes nothing.
+-- Jobs that are dealt, written and bundled by the calls open by the calls. What is asked is that the calls of the writers returned 0 (`Written`),
+-- that the jobs are dealt, and that the files are t + 1 + 2e or more. Where all files have what was dealt, each place opens to its job and each run
+-- to the sum of its jobs, with nobody named (`dealt-place-opens`, `dealt-sum-opens`). Where up to e files have other words they open to the same,
+-- and exactly those holders are named who have other words at the place, or another sum (`changed-place-opens`, `changed-sum-opens`). For one
+-- place or run it is enough that the words there, or the sums, of up to e holders are changed (`written-place-opens`, `written-run-opens`).
+-- Assumes nothing.
 use mathlib.Core.Path.{_≡_, refl, sym, ap, ap₂, subst, _∙_}
 use mathlib.Core.List.{List, [], _∷_}
 use Prim.Native.Nat.{ℕ, _+_, _-_, _*_, _≤_, _<_}
-use native.Mathlib.Nat.{le-of-mul-le-mul-right, le-of-eq}
+use native.Mathlib.Nat.{le-trans, le-of-mul-le-mul-right, le-of-eq}
 use native.Mathlib.Omega.{arith}
 use lib.Count.{ones}
 use lib.ListN.{length, getD, take, drop}
@@ -28,15 +29,17 @@ use Rattle.totals.proofs.Sums.{sum-same}
 use Rattle.totals.proofs.Values.{every-all}
 use Rattle.archive.specs.Archive.{sharesBy, sharesAt, sharesOver, openPlace, openRun}
 use Rattle.archive.specs.Clear.{PlaceClear, RunClear}
-use Rattle.archive.specs.Dealt.{sumPolys, BundleOpensTo, PlaceOpensTo, RunOpensTo}
+use Rattle.archive.specs.Dealt.{BundleOpensTo, PlaceOpensTo, RunOpensTo}
 use Rattle.archive.proofs.Opens.{place-decides, run-decides}
 use Rattle.archive.proofs.Shares.{shares-holders, of-width}
 use Rattle.promises.specs.Written.{Deals, dealingOf, shareOf, sharesOf, atPlace, Archive, wordsIn, writtenBundle, FileWritten, Written}
-use Rattle.promises.specs.Written.{EnoughFiles, HoldsShares, changedAt, changedOver}
-use Rattle.promises.proofs.Jobs.{errors-changed, changed-same, none-changed, no-ones, poly-of, share-value, free-of, shares-length, share-no}
+use Rattle.promises.specs.Written.{fromPlace, sumSecret, sumDealing}
+use Rattle.promises.specs.Written.{EnoughFiles, HoldsShares, changedAnywhere, changedAt, changedOver}
+use Rattle.promises.proofs.Changed.{changed-fewer, errors-changed, changed-same, none-changed, no-ones}
+use Rattle.promises.proofs.Jobs.{poly-of, share-value, free-of, shares-length, share-no}
 use Rattle.promises.proofs.Jobs.{sum-poly, sum-free, sum-value}
 use Rattle.promises.proofs.Written.{no-fault, reads, params-is, jobs-is, enough-files, holder-good, words-count, range}
-use Rattle.promises.proofs.Written.{one-file, read-width, shares-at, shares-over}
+use Rattle.promises.proofs.Written.{one-file, holders-fine, read-width, shares-at, shares-over}
 
 -- ---- shares within e of a polynomial open to it
 
@@ -115,12 +118,12 @@ module _ (a : Archive) (w : Written a) where
   pub written-run-opens : EnoughFiles a → (j : ℕ → Job) (x y : ℕ) → x ≤ y → y ≤ length (a .numbers) →
       ((i : ℕ) → i < y - x → Deals (a .params) (j i)) → ones (changedOver a j x (y - x)) ≤ a .allowance →
       RunOpensTo (writtenBundle a) x y (a .params .d) 1
-      (sumPolys (a .params .k) (a .params .d) (a .params .t) (λ i. dealingOf (a .params) (j i)) (y - x))
-      (sumTo (a .params .k) (a .params .d) (λ i. j i .secret) (y - x)) (changedOver a j x (y - x))
+      (sumDealing (a .params) j (y - x))
+      (sumSecret (a .params) j (y - x)) (changedOver a j x (y - x))
   written-run-opens m j x y l u deals few =
       let n = y - x in
       let r = range a w in
-      let q = sumPolys (p .k) (p .d) (p .t) (λ i. dealingOf p (j i)) n in
+      let q = sumDealing p j n in
       let held : ℕ → Element = λ h. sumTo (p .k) (p .d) (λ i. wordsIn a (x + i) h) n in
       let e : errorSet (paramsOf bs .k) (paramsOf bs .d) q (sharesOver bs x n) ≡ changedOver a j x n =
       ap₂ (λ (o : Params) (ss : List Share). errorSet (o .k) (o .d) q ss) (params-is a w) (shares-over a w x n (omega arith))
@@ -129,57 +132,88 @@ module _ (a : Archive) (w : Written a) where
       (all-map (λ h g. sum-value p r j n deals h (g .0) (g .1)) (a .holders) holders-good) in
       near-opens bs (no-fault a w) (λ f. runTotal bs f x n) (openRun bs x y (p .d) 1)
       (run-decides bs x y (p .d) 1 (run-clear x y l u) (enough-files a w m)) q (poly-read q (sum-poly p r j n deals))
-      (sumTo (p .k) (p .d) (λ i. j i .secret) n) (sum-free p r j n deals) (changedOver a j x n) e (rw (reads a w .allowance) few)
+      (sumSecret p j n) (sum-free p r j n deals) (changedOver a j x n) e (rw (reads a w .allowance) few)
 
-  -- ---- files that have what was dealt
+  -- ---- an archive of dealt jobs, one for each number
 
-  module _ (js : List Job) (deals : All (Deals (a .params)) js) (holds : HoldsShares a js) where
-    -- a job for each number
-    jobs-count : length js ≡ length (a .numbers)
-    jobs-count =
-        let h = getD (a .holders) 0 0 in
-        let one = one-file a w in
-        let x = all-at (FileWritten a) (a .holders) 0 0 (w .files) one in
-        let g = holder-good a w h x in
-        let r = range a w in
-        let e : length js * p .d ≡ length (a .numbers) * p .d =
-        sym (shares-length p r h (g .0) (g .1) js deals)
-        ∙ ap length (sym (all-at (λ (i : ℕ). a .words i ≡ sharesOf p js i) (a .holders) 0 0 holds one)) ∙ words-count a w h x in
-        let low : 0 < p .d = omega (arith, r .d-low) in
-        let le : length js ≤ length (a .numbers) = le-of-mul-le-mul-right {k = p .d} (le-of-eq e) low in
-        let ge : length (a .numbers) ≤ length js = le-of-mul-le-mul-right {k = p .d} (le-of-eq (sym e)) low in
-        omega arith
+  module _ (js : List Job) (deals : All (Deals (a .params)) js) where
+    module _ (count : length js ≡ length (a .numbers)) where
+      pub deals-at : (i : ℕ) → i < length (a .numbers) → Deals (a .params) (atPlace js i)
+      deals-at i u = all-at (Deals p) js i _ deals (omega arith)
 
-    pub deals-at : (i : ℕ) → i < length (a .numbers) → Deals (a .params) (atPlace js i)
-    deals-at i u = all-at (Deals p) js i _ deals (omega (arith, jobs-count))
+      -- a file that has its holder's shares has at each place the share of the job
+      pub words-share : (i : ℕ) → i < length (a .numbers) → (h : ℕ) → (1 ≤ h) × (h ≤ a .params .n) → a .words h ≡ sharesOf (a .params) js h →
+          wordsIn a i h ≡ shareOf (a .params) (atPlace js i) h
+      words-share i u h g e =
+          ap (λ (ws : List ℕ). take (p .d) (drop (i * p .d) ws)) e ∙ share-no p (range a w) h (g .0) (g .1) js deals i (omega arith)
 
-    -- each holder has at each place its share of the job
-    pub words-share : (i : ℕ) → i < length (a .numbers) → (h : ℕ) → (1 ≤ h) × (h ≤ a .params .n) → a .words h ≡ sharesOf (a .params) js h →
-        wordsIn a i h ≡ shareOf (a .params) (atPlace js i) h
-    words-share i u h g e =
-        ap (λ (ws : List ℕ). take (p .d) (drop (i * p .d) ws)) e
-        ∙ share-no p (range a w) h (g .0) (g .1) js deals i (omega (arith, jobs-count))
+      -- and so over a run their sums
+      pub sums-share : (x n : ℕ) → x + n ≤ length (a .numbers) → (h : ℕ) → (1 ≤ h) × (h ≤ a .params .n) → a .words h ≡ sharesOf (a .params) js h →
+          sumTo (a .params .k) (a .params .d) (λ i. wordsIn a (x + i) h) n
+          ≡ sumTo (a .params .k) (a .params .d) (λ i. shareOf (a .params) (atPlace js (x + i)) h) n
+      sums-share x n u h g e =
+          sum-same (p .k) (p .d) (λ i. wordsIn a (x + i) h) (λ i. shareOf p (atPlace js (x + i)) h) n (λ i v. words-share (x + i) (omega arith) h g e)
 
-    pub dealt-place-opens : EnoughFiles a → (i : ℕ) → i < length (a .numbers) →
-        PlaceOpensTo (writtenBundle a) i (a .params .d) 1 (dealingOf (a .params) (atPlace js i)) (atPlace js i .secret) 0
-    dealt-place-opens m i u =
-        let j = atPlace js i in
-        let none : changedAt a j i ≡ 0 =
-        none-changed (shareOf p j) (wordsIn a i) (a .holders) (all-map₂ (words-share i u) (a .holders) holders-good holds) in
-        subst (PlaceOpensTo bs i (p .d) 1 (dealingOf p j) (j .secret)) none
-        (written-place-opens m j (deals-at i u) i u (rw (none, no-ones) (omega arith)))
+      -- up to e of the files have other words, anywhere
+      module _ (m : EnoughFiles a) (few : ones (changedAnywhere a js) ≤ a .allowance) where
+        pub changed-place-opens : (i : ℕ) → i < length (a .numbers) →
+            PlaceOpensTo (writtenBundle a) i (a .params .d) 1 (dealingOf (a .params) (atPlace js i)) (atPlace js i .secret)
+            (changedAt a (atPlace js i) i)
+        changed-place-opens i u =
+            let j = atPlace js i in
+            let l = changed-fewer (paramsOf bs .d) (sharesOf p js) (a .words) (shareOf p j) (wordsIn a i) (a .holders) (holders-fine a w)
+            (all-map (λ h g. words-share i u h g) (a .holders) holders-good) in
+            written-place-opens m j (deals-at i u) i u (le-trans l few)
 
-    pub dealt-total-opens : EnoughFiles a → (x y : ℕ) → x ≤ y → y ≤ length (a .numbers) →
-        RunOpensTo (writtenBundle a) x y (a .params .d) 1
-        (sumPolys (a .params .k) (a .params .d) (a .params .t) (λ i. dealingOf (a .params) (atPlace js (x + i))) (y - x))
-        (sumTo (a .params .k) (a .params .d) (λ i. atPlace js (x + i) .secret) (y - x)) 0
-    dealt-total-opens m x y l u =
-        let n = y - x in
-        let j : ℕ → Job = λ i. atPlace js (x + i) in
-        let none : changedOver a j x n ≡ 0 =
-        none-changed (λ h. sumTo (p .k) (p .d) (λ i. shareOf p (j i) h) n) (λ h. sumTo (p .k) (p .d) (λ i. wordsIn a (x + i) h) n) (a .holders)
-        (all-map₂ (λ h (g : (1 ≤ h) × (h ≤ p .n)) (e : a .words h ≡ sharesOf p js h).
-        sum-same (p .k) (p .d) (λ i. wordsIn a (x + i) h) (λ i. shareOf p (j i) h) n (λ i v. words-share (x + i) (omega arith) h g e))
-        (a .holders) holders-good holds) in
-        subst (RunOpensTo bs x y (p .d) 1 (sumPolys (p .k) (p .d) (p .t) (λ i. dealingOf p (j i)) n) (sumTo (p .k) (p .d) (λ i. j i .secret) n)) none
-        (written-run-opens m j x y l u (λ i v. deals-at (x + i) (omega arith)) (rw (none, no-ones) (omega arith)))
+        pub changed-sum-opens : (x y : ℕ) → x ≤ y → y ≤ length (a .numbers) →
+            RunOpensTo (writtenBundle a) x y (a .params .d) 1
+            (sumDealing (a .params) (fromPlace js x) (y - x))
+            (sumSecret (a .params) (fromPlace js x) (y - x)) (changedOver a (fromPlace js x) x (y - x))
+        changed-sum-opens x y l u =
+            let n = y - x in
+            let fewer = changed-fewer (paramsOf bs .d) (sharesOf p js) (a .words) (λ h. sumTo (p .k) (p .d) (λ i. shareOf p (atPlace js (x + i)) h) n)
+            (λ h. sumTo (p .k) (p .d) (λ i. wordsIn a (x + i) h) n) (a .holders) (holders-fine a w)
+            (all-map (λ h g. sums-share x n (omega arith) h g) (a .holders) holders-good) in
+            written-run-opens m (fromPlace js x) x y l u (λ i v. deals-at (x + i) (omega arith)) (le-trans fewer few)
+
+    -- all files have what was dealt
+    module _ (holds : HoldsShares a js) where
+      -- then there is a job for each number
+      pub jobs-count : length js ≡ length (a .numbers)
+      jobs-count =
+          let h = getD (a .holders) 0 0 in
+          let one = one-file a w in
+          let x = all-at (FileWritten a) (a .holders) 0 0 (w .files) one in
+          let g = holder-good a w h x in
+          let r = range a w in
+          let e : length js * p .d ≡ length (a .numbers) * p .d =
+          sym (shares-length p r h (g .0) (g .1) js deals)
+          ∙ ap length (sym (all-at (λ (i : ℕ). a .words i ≡ sharesOf p js i) (a .holders) 0 0 holds one)) ∙ words-count a w h x in
+          let low : 0 < p .d = omega (arith, r .d-low) in
+          let le : length js ≤ length (a .numbers) = le-of-mul-le-mul-right {k = p .d} (le-of-eq e) low in
+          let ge : length (a .numbers) ≤ length js = le-of-mul-le-mul-right {k = p .d} (le-of-eq (sym e)) low in
+          omega arith
+
+      few : ones (changedAnywhere a js) ≤ a .allowance
+      few = rw (none-changed (sharesOf p js) (a .words) (a .holders) holds, no-ones) (omega arith)
+
+      pub dealt-place-opens : EnoughFiles a → (i : ℕ) → i < length (a .numbers) →
+          PlaceOpensTo (writtenBundle a) i (a .params .d) 1 (dealingOf (a .params) (atPlace js i)) (atPlace js i .secret) 0
+      dealt-place-opens m i u =
+          let j = atPlace js i in
+          let none : changedAt a j i ≡ 0 =
+          none-changed (shareOf p j) (wordsIn a i) (a .holders) (all-map₂ (words-share jobs-count i u) (a .holders) holders-good holds) in
+          subst (PlaceOpensTo bs i (p .d) 1 (dealingOf p j) (j .secret)) none (changed-place-opens jobs-count m few i u)
+
+      pub dealt-sum-opens : EnoughFiles a → (x y : ℕ) → x ≤ y → y ≤ length (a .numbers) →
+          RunOpensTo (writtenBundle a) x y (a .params .d) 1
+          (sumDealing (a .params) (fromPlace js x) (y - x))
+          (sumSecret (a .params) (fromPlace js x) (y - x)) 0
+      dealt-sum-opens m x y l u =
+          let n = y - x in
+          let j : ℕ → Job = fromPlace js x in
+          let none : changedOver a j x n ≡ 0 =
+          none-changed (λ h. sumTo (p .k) (p .d) (λ i. shareOf p (j i) h) n) (λ h. sumTo (p .k) (p .d) (λ i. wordsIn a (x + i) h) n) (a .holders)
+          (all-map₂ (sums-share jobs-count x n (omega arith)) (a .holders) holders-good holds) in
+          subst (RunOpensTo bs x y (p .d) 1 (sumDealing p j n) (sumSecret p j n)) none
+          (changed-sum-opens jobs-count m few x y l u)

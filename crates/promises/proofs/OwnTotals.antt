@@ -27,15 +27,16 @@ use Rattle.sharing.proofs.Opens.{lent-decides}
 use Rattle.fetch.specs.Fetch.{fileOf}
 use Rattle.fetch.proofs.Fetch.{holder-file}
 use Rattle.totals.specs.Total.{sumTo, runTotal, totalWords}
-use Rattle.totals.proofs.Sums.{sum-same, sum-length, sum-width}
+use Rattle.totals.proofs.Sums.{sum-length, sum-width}
 use Rattle.totals.proofs.Totals.{TotalClear, total-clear, total-words}
 use Rattle.totals.proofs.Words.{width-append}
 use Rattle.writer.proofs.Calls.{job-words}
-use Rattle.archive.specs.Dealt.{sumPolys}
-use Rattle.promises.specs.Written.{Deals, dealingOf, shareOf, sharesOf, atPlace, Archive, wordsIn, FileWritten, HoldsShares, changedOver}
+use Rattle.promises.specs.Written.{Deals, shareOf, sharesOf, Archive, wordsIn, FileWritten, HoldsShares, changedOver}
+use Rattle.promises.specs.Written.{fromPlace, sumSecret, sumDealing}
 use Rattle.promises.specs.Totals.{totalsOf, alone, ownBundle, OwnTotal}
-use Rattle.promises.proofs.Jobs.{sharesWith, errors-changed, changed-same, none-changed, no-ones, sum-poly, sum-free, sum-value}
-use Rattle.promises.proofs.Opened.{deals-at, words-share}
+use Rattle.promises.proofs.Changed.{sharesWith, errors-changed, changed-same, none-changed, no-ones}
+use Rattle.promises.proofs.Jobs.{sum-poly, sum-free, sum-value}
+use Rattle.promises.proofs.Opened.{deals-at, sums-share, jobs-count}
 use Rattle.promises.proofs.Written.{no-fault, count-is, jobs-is, holder-is, holder-good, words-count, range, total-is}
 
 module _ (a : Archive) (x y : ℕ) where
@@ -128,12 +129,12 @@ module _ (a : Archive) (x y : ℕ) where
 
       pub own-totals-open : (j : ℕ → Job) → ((i : ℕ) → i < y - x → Deals (a .params) (j i)) → ones (changedOver a j x (y - x)) ≤ a .allowance →
           OpensTo (a .params) (a .holders) (totalsOf (ownBundle a) x y old (a .holders)) (a .allowance)
-          (sumPolys (a .params .k) (a .params .d) (a .params .t) (λ i. dealingOf (a .params) (j i)) (y - x))
-          (sumTo (a .params .k) (a .params .d) (λ i. j i .secret) (y - x)) (changedOver a j x (y - x))
+          (sumDealing (a .params) j (y - x))
+          (sumSecret (a .params) j (y - x)) (changedOver a j x (y - x))
       own-totals-open j deals few =
           let n = y - x in
           let e = a .allowance in
-          let q = sumPolys (p .k) (p .d) (p .t) (λ i. dealingOf p (j i)) n in
+          let q = sumDealing p j n in
           let ss = lent (p .d) hs (lot hs) in
           let lc : LentClear p hs (lot hs) (p .d) 1 =
           record {
@@ -162,22 +163,22 @@ module _ (a : Archive) (x y : ℕ) where
 
       pub own-dealt-totals-open : (js : List Job) → All (Deals (a .params)) js → HoldsShares a js →
           OpensTo (a .params) (a .holders) (totalsOf (ownBundle a) x y old (a .holders)) (a .allowance)
-          (sumPolys (a .params .k) (a .params .d) (a .params .t) (λ i. dealingOf (a .params) (atPlace js (x + i))) (y - x))
-          (sumTo (a .params .k) (a .params .d) (λ i. atPlace js (x + i) .secret) (y - x)) 0
+          (sumDealing (a .params) (fromPlace js x) (y - x))
+          (sumSecret (a .params) (fromPlace js x) (y - x)) 0
       own-dealt-totals-open js deals holds =
           let n = y - x in
           let h₀ = getD hs 0 0 in
           let e₀ = all-at (λ h. a .words h ≡ sharesOf p js h) hs 0 0 holds (omega (arith, present .enough)) in
-          let j : ℕ → Job = λ i. atPlace js (x + i) in
+          let j : ℕ → Job = fromPlace js x in
           let none : changedOver a j x n ≡ 0 =
           none-changed (λ h. sumTo (p .k) (p .d) (λ i. shareOf p (j i) h) n) sumIn hs
           (all-map₂ (λ h (t : OwnTotal a x y (old h) h) (e : a .words h ≡ sharesOf p js h).
-          (let u = places h (old h) t in
-          sum-same (p .k) (p .d) (λ i. wordsIn a (x + i) h) (λ i. shareOf p (j i) h) n
-          (λ i v. words-share (alone a h) (t .written) js deals (e, tt) (x + i) (omega arith) h
-          (holder-good (alone a h) (t .written) h (t .written .files .0)) e)))
+          (let o = alone a h in
+          let w = t .written in
+          sums-share o w js deals (jobs-count o w js deals (e, tt)) x n (places h (old h) t) h (holder-good o w h (w .files .0)) e))
           hs totals holds) in
           let u₀ = places h₀ (old h₀) one in
-          let q = sumPolys (p .k) (p .d) (p .t) (λ i. dealingOf p (j i)) n in
-          subst (OpensTo p hs (lot hs) (a .allowance) q (sumTo (p .k) (p .d) (λ i. j i .secret) n)) none
-          (own-totals-open j (λ i v. deals-at (alone a h₀) (one .written) js deals (e₀, tt) (x + i) (omega arith)) (rw (none, no-ones) (omega arith)))
+          let c₀ = jobs-count (alone a h₀) (one .written) js deals (e₀, tt) in
+          let q = sumDealing p j n in
+          subst (OpensTo p hs (lot hs) (a .allowance) q (sumSecret p j n)) none
+          (own-totals-open j (λ i v. deals-at (alone a h₀) (one .written) js deals c₀ (x + i) (omega arith)) (rw (none, no-ones) (omega arith)))

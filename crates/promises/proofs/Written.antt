@@ -1,6 +1,6 @@
 -- What is read of a bundle that the calls wrote: its parameters, holders and places are those of the archive (`reads`), the shares at a place are
 -- the words in the holders' files (`shares-at`), those of a run their sums (`shares-over`). Assumes nothing.
-use mathlib.Core.Path.{_≡_, refl, sym, ap, ap₂, _∙_}
+use mathlib.Core.Path.{_≡_, refl, sym, ap, ap₂, subst, _∙_}
 use mathlib.Core.Bool.{true}
 use mathlib.Core.List.{List, [], _∷_, _++_, map}
 use Prim.Native.Nat.{ℕ, zero, suc, _+_, _-_, _*_, _≤_, _<_}
@@ -25,6 +25,8 @@ use Rattle.totals.specs.Values.{valuesFrom}
 use Rattle.totals.proofs.Sums.{sum-same}
 use Rattle.archive.specs.Archive.{shareBy, sharesBy, sharesAt, sharesOver}
 use Rattle.archive.specs.Clear.{Enough}
+use Rattle.archive.proofs.Shares.{shares-holders}
+use Rattle.codewords.specs.WellFormed.{Holders}
 use Rattle.writer.specs.Bytes.{filesBytes, orderBytes, bundleBytes}
 use Rattle.writer.specs.ByPlace.{fileNo, jobNo, ReadsAs}
 use Rattle.writer.specs.Fits.{FileFits}
@@ -35,7 +37,7 @@ use Rattle.writer.proofs.Orders.{order-fault}
 use Rattle.writer.proofs.Undo.{file-for-fits}
 use Rattle.promises.specs.Written.{Archive, wordsIn, fileWith, filesWith, writtenBundle, FileWritten, Written}
 use Rattle.promises.specs.Written.{EnoughFiles}
-use Rattle.promises.proofs.Jobs.{sharesWith}
+use Rattle.promises.proofs.Changed.{sharesWith}
 
 -- values at the places of a list
 values-map : {A : Type 0} (g : ℕ → A) (v : ℕ → A) (l : List ℕ) (i : ℕ) → ((j : ℕ) → j < length l → g (i + j) ≡ v (getD l j 0)) →
@@ -174,6 +176,10 @@ module _ (a : Archive) (w : Written a) where
       ∙ values-map (shareBy bs g) (λ h. record { holder = h; words = v h }) hs 0
       (λ f l. ap (shareBy bs g) (let z : 0 + f ≡ f = omega arith in z)
       ∙ ap₂ (λ (h : ℕ) (x : Element). record { holder = h; words = x }) (holder-is f l) (e f l))
+
+  -- no two shares under one holder
+  pub holders-fine : Holders (paramsOf (writtenBundle a) .d) (sharesWith (λ h. []) (a .holders))
+  holders-fine = subst (Holders (paramsOf bs .d)) (shares-by (λ f. []) (λ h. []) (λ f l. refl)) (shares-holders bs no-fault (λ f. []))
 
   pub shares-at : (i : ℕ) → i < length (a .numbers) → sharesAt (writtenBundle a) i ≡ sharesWith (wordsIn a i) (a .holders)
   shares-at i u = shares-by (λ f. wordsOf bs f i) (wordsIn a i) (λ f l. words-are f i l u)

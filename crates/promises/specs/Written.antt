@@ -2,20 +2,25 @@
 -- is written of these files. What is asked of each step is that its call returned 0. Assumes nothing.
 use mathlib.Core.Path.{_≡_}
 use Prim.Native.Nat.{ℕ, _+_, _-_, _*_, _^_, _≤_, _<_}
-use mathlib.Core.Bool.{not}
+use mathlib.Core.Bool.{true, not}
 use mathlib.Core.List.{List, [], _∷_, _++_}
 use lib.ListN.{length, getD, take, drop}
 use Rattle.algebra.specs.Shares.{All}
+use Rattle.words.specs.Params.{paramsOk}
+use Rattle.words.specs.Word.{allInWidth}
 use Rattle.words.specs.declared.Params.{Params}
 use Rattle.galois.specs.Element.{Element, same}
 use Rattle.codewords.specs.Codeword.{Polynomial, when}
 use Rattle.sharing.specs.Dealing.{dealing, dealt}
 use Rattle.sharing.specs.Dealt.{Dealable, Job}
+use Rattle.sharing.specs.Opening.{risingTo}
+use Rattle.bundle.specs.Bundle.{mostJobs}
 use Rattle.bundle.specs.Contents.{File}
 use Rattle.writer.specs.Bytes.{filesBytes, orderBytes}
 use Rattle.writer.specs.Fits.{Words64}
-use Rattle.writer.specs.Write.{fileFor, fileWriteFault, bundleWriteFault}
+use Rattle.writer.specs.Write.{fileFor, rising, fileWriteFault, bundleWriteFault}
 use Rattle.totals.specs.Total.{sumTo}
+use Rattle.archive.specs.Dealt.{sumPolys}
 
 -- ---- jobs
 
@@ -38,6 +43,17 @@ sharesOf p (j ∷ js) h = shareOf p j h ++ sharesOf p js h
 -- the job at a place: "Places count from 0."
 abbrev pub atPlace : List Job → ℕ → Job
 atPlace js i = getD js i (record { secret = []; coefficients = [] })
+
+-- the jobs from a place on
+abbrev pub fromPlace : List Job → ℕ → ℕ → Job
+fromPlace js x i = atPlace js (x + i)
+
+-- the sum of the jobs j 0, .., j (n - 1), and of the polynomials that deal them
+abbrev pub sumSecret : Params → (ℕ → Job) → ℕ → Element
+sumSecret p j n = sumTo (p .k) (p .d) (λ i. j i .secret) n
+
+abbrev pub sumDealing : Params → (ℕ → Job) → ℕ → Polynomial
+sumDealing p j n = sumPolys (p .k) (p .d) (p .t) (λ i. dealingOf p (j i)) n
 
 -- ---- files
 
@@ -83,6 +99,19 @@ pub record Written (a : Archive) : Type 0 where
   pub size : ℕ
   pub bundle : bundleWriteFault (a .allowance) (writtenFiles a) size ≡ 0
 
+-- The archive is in the ranges of paper 01: its parameters, J "0 to 1,000", "job numbers strictly rising", "one file or more, holders strictly
+-- rising", and in each file d words for each job, in width.
+pub record InRanges (a : Archive) : Type 0 where
+  pub number-fits : a .number < 2 ^ 64
+  pub numbers-fit : Words64 (a .numbers)
+  pub params-ok : paramsOk (a .params) ≡ true
+  pub jobs-high : length (a .numbers) ≤ mostJobs
+  pub numbers-rise : rising (a .numbers) ≡ true
+  pub some-holder : 1 ≤ length (a .holders)
+  pub holders-rise : risingTo (a .params .n) 0 (a .holders) ≡ true
+  pub words-count : All (λ h. length (a .words h) ≡ length (a .numbers) * a .params .d) (a .holders)
+  pub words-width : All (λ h. allInWidth (a .params .k) (a .words h) ≡ true) (a .holders)
+
 -- the files are t + 1 + 2e or more
 abbrev pub EnoughFiles : Archive → Type 0
 EnoughFiles a = a .params .t + 1 + 2 * a .allowance ≤ length (a .holders)
@@ -98,6 +127,10 @@ unfoldable pub changedHolders : (ℕ → Element) → (ℕ → Element) → List
 unfolding same
 changedHolders should is [] = 0
 changedHolders should is (h ∷ hs) = when (not (same (is h) (should h))) (2 ^ (h - 1)) + changedHolders should is hs
+
+-- those whose files have other words than their shares of the jobs
+abbrev pub changedAnywhere : Archive → List Job → ℕ
+changedAnywhere a js = changedHolders (sharesOf (a .params) js) (a .words) (a .holders)
 
 -- at a place: those who have something else than their share of a job
 abbrev pub changedAt : Archive → Job → ℕ → ℕ

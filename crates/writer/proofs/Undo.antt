@@ -48,7 +48,7 @@ at-rising (x ∷ y ∷ ns) f =
 
 -- ---- lent lists make a file that can be written
 
-nums-of : (d : ℕ) (ns ws : List ℕ) → numbersIn (jobsOf d ns ws) ≡ ns
+pub nums-of : (d : ℕ) (ns ws : List ℕ) → numbersIn (jobsOf d ns ws) ≡ ns
 unfolding jobsOf
 nums-of d [] ws = refl
 nums-of d (n ∷ ns) ws = ap (λ (l : List ℕ). n ∷ l) (nums-of d ns (drop d ws))
