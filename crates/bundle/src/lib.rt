@@ -204,7 +204,7 @@ pub fn bundle_fault(bytes: &[u8]) -> u8
 }
 
 // What accepting bytes gives where they have a fault.
-fn refused(fault: u8) -> Accepted
+pub fn refused(fault: u8) -> Accepted
     ensures { λ r. ⌜ r ≡ (record { fault = fault; files = 0; heading = noHeading }) ⌝ }
 {
     let params = Params {

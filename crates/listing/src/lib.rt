@@ -3,14 +3,13 @@ ghost use mathlib.Core.Path.{_≡_};
 ghost use mathlib.Core.List.{[], _∷_};
 ghost use Prim.Native.Nat.{_+_, _≤_, _<_};
 ghost use lib.ListN.{length};
-ghost use Rattle.words.specs.Refusal.{kept, LENGTH};
-ghost use Rattle.bundle.specs.Bundle.{bundleFault, bundleHeading, filesOf, noHeading};
+ghost use Rattle.words.specs.Refusal.{kept};
+ghost use Rattle.bundle.specs.Bundle.{bundleFault, bundleHeading, filesOf};
 ghost use Rattle.text.specs.Text.{written, lineRoom};
 ghost use Rattle.listing.specs.Listing.{lineOf, lineFault};
 ghost use Rattle.listing.specs.Pieces.{piece, acceptedInput, printerAt};
 use bundle::Accepted;
 use records::Heading;
-use words::Params;
 
 // The most bytes of an input: the definition's mostInput.
 pub const MOST_INPUT: usize = 65536;
@@ -79,35 +78,12 @@ pub fn list_line(bytes: &[u8], place: usize, line: &mut [u8], size: &mut [u64]) 
     0
 }
 
-// What accepting gives for an input that is too long.
-fn too_long() -> Accepted
-    ensures { λ r. ⌜ r ≡ (record { fault = LENGTH; files = 0; heading = noHeading }) ⌝ }
-{
-    let params = Params {
-        k: 0,
-        d: 0,
-        n: 0,
-        t: 0,
-    };
-    let heading = Heading {
-        params,
-        holder: 0,
-        archive: 0,
-        jobs: 0,
-    };
-    Accepted {
-        fault: words::LENGTH,
-        files: 0,
-        heading,
-    }
-}
-
 // Accepts an input. One that is too long is refused before any record is looked at.
 pub fn accept_input(bytes: &[u8]) -> Accepted
     ensures { λ r. ⌜ r ≡ acceptedInput (now (bytes .entry)) ⌝ }
 {
     if MOST_INPUT < bytes.len() {
-        return too_long();
+        return bundle::refused(words::LENGTH);
     }
     bundle::accept(bytes)
 }

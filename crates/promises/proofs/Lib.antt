@@ -6,3 +6,4 @@ pub mod InRanges
 pub mod Written
 pub mod Opened
 pub mod OwnTotals
+pub mod Files

@@ -14,7 +14,7 @@ use Rattle.algebra.specs.Shares.{All}
 use Rattle.algebra.proofs.Shares.{all-map, all-map₂, all-at}
 use Rattle.words.specs.declared.Params.{Params}
 use Rattle.words.specs.Word.{allInWidth}
-use Rattle.words.proofs.InRange.{InRange}
+use Rattle.words.proofs.InRange.{InRange, range-ok}
 use Rattle.words.proofs.Tests.{and-both}
 use Rattle.galois.specs.Element.{Element, point}
 use Rattle.codewords.specs.Codeword.{Share, value, errorSet}
@@ -22,7 +22,8 @@ use Rattle.codewords.specs.Opening.{opens, secretInto, wrongInto}
 use Rattle.codewords.proofs.ErrorSet.{ones-errors}
 use Rattle.sharing.specs.Dealt.{Job, Present, OpensTo}
 use Rattle.sharing.specs.Opening.{lent, opening}
-use Rattle.sharing.proofs.Lent.{LentClear, clear-lent, clear-holders}
+use Rattle.sharing.specs.Clear.{LentClear}
+use Rattle.sharing.proofs.Lent.{clear-holders}
 use Rattle.sharing.proofs.Opens.{lent-decides}
 use Rattle.fetch.specs.Fetch.{fileOf}
 use Rattle.fetch.proofs.Fetch.{holder-file}
@@ -138,10 +139,10 @@ module _ (a : Archive) (x y : ℕ) where
           let ss = lent (p .d) hs (lot hs) in
           let lc : LentClear p hs (lot hs) (p .d) 1 =
           record {
-            range = ranges;
+            params = range-ok p ranges;
             words-length = lot-length hs totals;
-            out-length = refl;
-            wrong-length = refl;
+            output = refl;
+            wrong-output = refl;
             rising = present .rising;
             width = lot-width hs totals;
           } in
@@ -153,7 +154,7 @@ module _ (a : Archive) (x y : ℕ) where
           (all-map (λ h g. sum-value p ranges j n deals h (g .0) (g .1)) hs good) in
           let count = ones-errors (p .k) (p .d) q ss (all-map (λ (s : Share) g. g .0) ss (holders .0)) (holders .1) in
           let o : opening p hs (lot hs) e (p .d) 1 ≡ opens q =
-          lent-decides p hs (lot hs) e (p .d) 1 (clear-lent p hs (lot hs) (p .d) 1 lc) (present .enough) .finds q
+          lent-decides p hs (lot hs) e (p .d) 1 lc (present .enough) .finds q
           (record { poly = sum-poly p ranges j n deals; near = rw (← count, set) few }) in
           record {
             opened = o;
