@@ -106,7 +106,7 @@ def index(faults):
     for line in read(INDEX).split('\n'):
         cells = [c.strip() for c in line.strip().strip('|').split('|')] if line.startswith('|') else None
         head = head if cells and head else cells
-        column = {('promise', 'by', 'where'): 1, ('theorem', 'where'): 0}.get(tuple(head or ()))
+        column = {('promise', 'by', 'where'): 1, ('in plain words', 'by'): 1, ('theorem', 'where'): 0}.get(tuple(head or ()))
         if cells and column is not None and len(cells) == len(head) and cells != head and cells[0] != '---':
             cells[column] = linked(cells[column], cells[-1], faults)
             line = '| %s |' % ' | '.join(cells)

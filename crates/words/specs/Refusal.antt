@@ -1,6 +1,6 @@
 -- The order of refusals, paper 01, "When a call declines": a fault is the paper's number, and 0 is none. Assumes nothing.
 use Prim.Native.Nat.{ℕ, zero, suc}
-use mathlib.Core.Bool.{Bool, true, false}
+use mathlib.Core.Bool.{Bool, cond}
 
 -- the paper's table, by the names that the code's constants have: book, length, wide word, holder, too few, no curve, frame, strangers, place
 abbrev pub PARAMETERS : ℕ
@@ -37,8 +37,7 @@ first (suc a) b = suc a
 
 -- the fault c unless a test holds
 unfoldable pub unless : Bool → ℕ → ℕ
-unless true c = 0
-unless false c = c
+unless t c = cond t 0 c
 
 -- the first of the faults f 0, .., f (n - 1)
 unfoldable pub firstOf : (ℕ → ℕ) → ℕ → ℕ

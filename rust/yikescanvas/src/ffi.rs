@@ -1,4 +1,4 @@
-//! The functions of include/yikescanvas.h. Nothing checks these declarations against the library: keep them as the header has them.
+//! The functions of include/yikescanvas.h; tests/bindings.sh compares both with the exported calls.
 use core::ffi::c_uchar;
 
 extern "C" {
