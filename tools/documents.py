@@ -84,8 +84,9 @@ def refusals():
     told = {int(row[0]): row for row in rows(REFERENCE, '| number | word | in C, in Rust |')}
     header = (TOP / 'include/yikescanvas.h').read_text(encoding='utf-8')
     wrapper = (TOP / 'rust/yikescanvas/src/lib.rs').read_text(encoding='utf-8')
-    in_c = {int(n): name for name, n in re.findall(r'(YIKES_\w+) = (\d+),? */\*', header)}
-    in_rust = {int(n): name for name, n in re.findall(r'^    (\w+) = (\d+),$', wrapper, re.M)}
+    numbers = header.split('YIKES_OK = 0,', 1)[1].split('}', 1)[0]
+    in_c = {int(n): name for name, n in re.findall(r'(YIKES_\w+) = (\d+)', numbers)}
+    in_rust = {int(n): name for name, n in re.findall(r'Refusal::(\w+) => (\d+),', wrapper)}
     if not set(told) == set(in_c) == set(in_rust):
         yield 'the refusals are not those of the header and of the Rust wrapper'
     for n, row in told.items():

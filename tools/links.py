@@ -4,12 +4,14 @@
   tools/links.py --write    link each name in backquotes in the second column of a table of promises (in the first of the table of theorems) to the
                             line that declares it, in a file that the row's last column names, or in the one file of crates/ that has it
   tools/links.py --check    exit 1 if such a name has no link, is declared nowhere, or has a link to a line that does not declare it; or if a relative
-                            link of a document leads to no file, line or heading, or a script of tools/ or tests/ that it names is not there"""
+                            link of a document leads to no file, line or heading, or a script of tools/ or tests/ or an exported name that it has is
+                            not there"""
 import os
 import re
 import sys
 
 TOP = os.path.dirname(os.path.dirname(os.path.abspath(__file__)))
+HEADER = 'include/yikescanvas.h'
 INDEX = 'docs/THEOREMS.md'
 DOCUMENTS = ['README.md', 'docs/THEOREMS.md', 'docs/REFERENCE.md', 'docs/CONTRIBUTING.md', 'docs/DECISIONS.md', 'docs/PERFORMANCE.md']
 LINKED = re.compile(r'\[(`[^`]+`)\]\([^)]*\)')
@@ -135,6 +137,9 @@ def dead(document):
                 yield '%s: no line at %s' % (document, goal)
         elif anchor and anchor not in anchors(path):
             yield '%s: no heading at %s' % (document, goal)
+    for name in sorted(set(re.findall(r'\b(?:yikes_[a-z]|YIKES_)\w+', text))):
+        if not re.search(r'\b%s\b' % name, read(HEADER)):
+            yield '%s: %s has no %s' % (document, HEADER, name)
     for path in sorted(set(re.findall(r'\b(?:tools|tests)/[\w/]+\.(?:py|sh|c)\b', text))):
         if not os.path.exists(os.path.join(TOP, path)):
             yield '%s: no %s' % (document, path)

@@ -181,18 +181,6 @@ module _ (k : ℕ) where
     pub low-double : (u : Galois F k .E) → low F (suc-le-suc zero-le) .fn (double .back u) ≡ Galois F 1 .𝟘
     low-double u = low-doubles u
 
-    -- an element is its lowest bits and the double of the half of the rest
-    abbrev pub bits : Galois F (suc k) .E → Galois F (suc k) .E
-    bits u = raise (suc k) (low F (suc-le-suc zero-le) .fn u)
-
-    pub bit-split : (u : Galois F (suc k) .E)
-        → u ≡ Galois F (suc k) .add (bits u) (double .back (halve (Galois F (suc k) .add u (Galois F (suc k) .neg (bits u)))))
-    bit-split u =
-        let R = Galois F (suc k) in
-        let f = low F (suc-le-suc zero-le) in
-        let z : f .fn (R .add u (R .neg (bits u))) ≡ Galois F 1 .𝟘 = fn-sub f u (bits u) (sym (low-raise (suc-le-suc zero-le) (f .fn u))) in
-        sym (ap (R .add (bits u)) (double-halve (R .add u (R .neg (bits u))) z) ∙ add-sub-left R u (bits u))
-
 -- modulo two minus is plus
 pub neg-self : {n : ℕ} (u : Vec (Word (2 ^ 1)) n) → vneg (Zk 1) u ≡ u
 neg-self nil = refl
