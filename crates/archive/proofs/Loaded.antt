@@ -1,33 +1,35 @@
 -- The shares of a bundle in arrays, as the decoder is asked about them: they are the files' shares, by the holders and the rows that the loaders
--- leave. Assumes nothing.
+-- leave. And what a run opens to, by its width. Assumes nothing.
 use mathlib.Core.Path.{_≡_, refl, sym, ap, ap₂, _∙_}
-use mathlib.Core.Bool.{Bool, true, false}
+use mathlib.Core.Bool.{true, false}
 use mathlib.Core.List.{List, [], _∷_, _++_}
 use Prim.Native.Nat.{ℕ, zero, suc, _+_, _≤_, _<_}
 use native.Mathlib.Omega.{arith}
 use lib.ListN.{length, take, drop, getD, List·getD-append}
 use lib.Seq.{length-front, length-take-le}
 use Rattle.words.specs.Params.{paramsOk}
-use Rattle.words.specs.Refusal.{unless, WIDE-WORD}
-use Rattle.words.specs.Word.{inWidth}
+use Rattle.words.specs.Refusal.{WIDE-WORD}
+use Rattle.words.specs.Word.{allInWidth}
 use Rattle.words.proofs.InRange.{range-ok}
 use Rattle.words.proofs.Refusal.{unless-yes, unless-no}
 use Rattle.galois.specs.Element.{Element, held}
 use Rattle.galois.proofs.Held.{held-take}
 use Rattle.polynomial.specs.Rows.{Rows}
 use Rattle.codewords.specs.Codeword.{Share}
-use Rattle.codewords.specs.Opening.{declines, unlessFault, answerTo}
+use Rattle.codewords.specs.Opening.{declines, answerTo}
 use Rattle.codewords.specs.WellFormed.{IsElement, InWidth}
-use Rattle.level.specs.Shares.{shareAt, sharesFrom, sharesOf}
+use Rattle.level.specs.Shares.{shareAt, sharesFrom, sharesOf, Sized}
 use Rattle.decoder.specs.Decoded.{Ordered}
 use Rattle.records.specs.declared.Heading.{Heading}
 use Rattle.bundle.specs.Bundle.{bundleFault, bundleHeading, paramsOf, allowanceOf, filesOf, holderOf}
+use Rattle.bundle.specs.Contents.{wordsOf}
 use Rattle.bundle.proofs.Bundles.{bundle-ok, bundle-ranges, files-most}
 use Rattle.totals.specs.Values.{valuesFrom}
-use Rattle.totals.proofs.Values.{values-count, value-at, values-same}
-use Rattle.archive.specs.Archive.{shareBy, sharesBy}
-use Rattle.archive.specs.Loaded.{sharesIn, openingOf}
-use Rattle.archive.proofs.Shares.{shares-ordered, shares-width}
+use Rattle.totals.proofs.Values.{values-count, value-at, values-same, every-each}
+use Rattle.totals.proofs.Words.{words-length}
+use Rattle.archive.specs.Archive.{shareBy, sharesBy, sharesOver, filesInWidth, runOpening}
+use Rattle.archive.specs.Loaded.{sharesIn, openingOf, placeInWidth}
+use Rattle.archive.proofs.Shares.{values-all, shares-ordered, shares-width}
 
 front : {A : Type 0} (f : ℕ → A) (n : ℕ) (rest : List A) (z : A) (i : ℕ) → i < n → getD (valuesFrom f 0 n ++ rest) i z ≡ f i
 front f n rest z i h = List·getD-append (valuesFrom f 0 n) rest z i (rw (values-count f 0 n) h) ∙ value-at f n i z h
@@ -57,9 +59,6 @@ module _ (bs : List ℕ) (h : Heading) (e : h ≡ bundleHeading bs) (n : ℕ) (f
       from zero i x = refl
       from (suc m) i x = ap₂ _∷_ (one i (omega arith)) (from m (suc i) (omega arith))
 
-  seen-is : (seen : ℕ) (b : Bool) → inWidth (h .params .k) seen ≡ b → inWidth (paramsOf bs .k) seen ≡ b
-  seen-is seen b x = ap (λ (y : Heading). inWidth (y .params .k) seen) (sym e) ∙ x
-
   -- rows that hold the words w
   module _ (w : ℕ → Element) (long : (f : ℕ) → length (w f) ≡ paramsOf bs .d) (ys yr : Rows)
       (rows : ys ≡ valuesFrom (λ f. held d (w f)) 0 n ++ yr) where
@@ -74,13 +73,14 @@ module _ (bs : List ℕ) (h : Heading) (e : h ≡ bundleHeading bs) (n : ℕ) (f
             ∙ ap (take d) (front (λ f. held d (w f)) n yr [] i l)
             ∙ held-take d (w i) (long i ∙ sym d-is)
 
+    pub loaded-sized : Sized (h .params .d) (sharesIn bs ys)
+    loaded-sized =
+        rw (loaded, e)
+        (values-all (λ (s : Share). length (s .words) ≡ paramsOf bs .d) (shareBy bs w) 0 (filesOf bs) (λ f l u. long f))
+
     pub loaded-width : ((f : ℕ) → f < filesOf bs → IsElement (paramsOf bs .k) (paramsOf bs .d) (w f)) →
         InWidth (h .params .k) (h .params .d) (sharesIn bs ys)
     loaded-width x = rw (loaded, e) (shares-width bs w x)
-
-    pub loaded-opens : (seen : ℕ) (b : Bool) → inWidth (h .params .k) seen ≡ b →
-        openingOf bs seen ys ≡ unlessFault (unless b WIDE-WORD) (answerTo (paramsOf bs) (allowanceOf bs) (sharesBy bs w))
-    loaded-opens seen b x = rw (seen-is seen b x, loaded)
 
   pub loaded-length : {A : Type 0} (f : ℕ → A) (ys old : List A) → bundleFault bs ≡ 0 → length old ≡ 63 → ys ≡ valuesFrom f 0 n ++ drop n old →
       length ys ≡ 63
@@ -94,11 +94,20 @@ module _ (bs : List ℕ) (h : Heading) (e : h ≡ bundleHeading bs) (n : ℕ) (f
       rw (e, files)
       (range-ok (paramsOf bs) (bundle-ranges bs (bundle-ok bs z) .book), files-most bs (bundle-ok bs z), shares-ordered bs z _)
 
-  -- what the shares open to, by the width that was seen
-  module _ (ys : Rows) (seen : ℕ) where
-    pub opens-wide : inWidth (h .params .k) seen ≡ false → openingOf bs seen ys ≡ declines WIDE-WORD
-    opens-wide x = rw (unless-no _ WIDE-WORD (seen-is seen false x))
+  -- what it answers
+  pub answered : (ys : Rows) (ss : List Share) → ss ≡ sharesIn bs ys → (a : ℕ) → a ≡ allowanceOf bs → answerTo (h .params) a ss ≡ openingOf bs ys
+  answered ys ss q a m = rw (q, m, e)
 
-    pub opens-narrow : (ss : List Share) → ss ≡ sharesIn bs ys → (a : ℕ) → a ≡ allowanceOf bs → inWidth (h .params .k) seen ≡ true →
-        answerTo (h .params) a ss ≡ openingOf bs seen ys
-    opens-narrow ss q a m x = rw (unless-yes _ WIDE-WORD (seen-is seen true x), q, m, e)
+-- a job whose words are in width, in each file
+pub place-width : (bs : List ℕ) (p f : ℕ) → placeInWidth bs p ≡ true → f < filesOf bs → IsElement (paramsOf bs .k) (paramsOf bs .d) (wordsOf bs f p)
+place-width bs p f e l = (words-length bs f p, every-each (λ g. allInWidth (paramsOf bs .k) (wordsOf bs g p)) (filesOf bs) f e l)
+
+-- what a run opens to, by its width
+module _ (bs : List ℕ) (a n : ℕ) where
+  pub run-declines : filesInWidth bs a n ≡ false → runOpening bs a n ≡ declines WIDE-WORD
+  unfolding runOpening
+  run-declines x = rw (unless-no (filesInWidth bs a n) WIDE-WORD x)
+
+  pub run-answers : filesInWidth bs a n ≡ true → runOpening bs a n ≡ answerTo (paramsOf bs) (allowanceOf bs) (sharesOver bs a n)
+  unfolding runOpening
+  run-answers x = rw (unless-yes (filesInWidth bs a n) WIDE-WORD x)

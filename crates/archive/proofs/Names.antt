@@ -1,6 +1,6 @@
 -- The wrong holders by file: a share of holder i is present and differs exactly when there is a file of that holder whose share differs
 -- (`wrong-file`). Assumes nothing.
-use mathlib.Core.Path.{_≡_, sym, _∙_, ap}
+use mathlib.Core.Path.{sym, _∙_, ap}
 use mathlib.Core.Logic.{_↔_}
 use mathlib.Core.List.{List}
 use Prim.Native.Nat.{ℕ}

@@ -21,14 +21,12 @@ use Rattle.records.specs.Record.{headingOf}
 use Rattle.bundle.specs.Bundle.{bundleFault, paramsOf, filesOf, fileAt, holderOf}
 use Rattle.bundle.specs.Contents.{wordsOf}
 use Rattle.bundle.proofs.Bundles.{bundle-ok, bundle-ranges, file-at, same-at, holders-rise}
-use Rattle.archive.specs.Archive.{shareBy, sharesBy}
-use Rattle.archive.specs.Archive.{placeInWidth, filesInWidth}
+use Rattle.archive.specs.Archive.{shareBy, sharesBy, filesInWidth}
 use Rattle.totals.specs.Total.{runTotal, runInWidth}
 use Rattle.totals.specs.Values.{valuesFrom}
 use Rattle.totals.proofs.Runs.{total-length}
 use Rattle.totals.proofs.Sums.{sum-width}
-use Rattle.totals.proofs.Values.{values-count, every-each, every-all}
-use Rattle.totals.proofs.Words.{words-length}
+use Rattle.totals.proofs.Values.{values-count, every-all}
 
 -- what holds of each value holds of each in the list
 pub values-all : {A : Type 0} (P : A → Type 0) (f : ℕ → A) (i n : ℕ) → ((j : ℕ) → i ≤ j → j < i + n → P (f j)) → All P (valuesFrom f i n)
@@ -98,10 +96,7 @@ pub shares-width : (bs : List ℕ) (w : ℕ → Element) → ((f : ℕ) → f < 
 shares-width bs w h =
     values-all (λ (s : Share). IsElement (paramsOf bs .k) (paramsOf bs .d) (s .words)) (shareBy bs w) 0 (filesOf bs) (λ j l u. h j (omega arith))
 
--- a job whose words are in width, in each file
-pub place-width : (bs : List ℕ) (p f : ℕ) → placeInWidth bs p ≡ true → f < filesOf bs → IsElement (paramsOf bs .k) (paramsOf bs .d) (wordsOf bs f p)
-place-width bs p f e l = (words-length bs f p, every-each (λ g. allInWidth (paramsOf bs .k) (wordsOf bs g p)) (filesOf bs) f e l)
-
+-- a run whose words are in width, in each file
 pub of-width : (bs : List ℕ) (a n : ℕ) → ((f i : ℕ) → f < filesOf bs → i < n → allInWidth (paramsOf bs .k) (wordsOf bs f (a + i)) ≡ true) →
     filesInWidth bs a n ≡ true
 of-width bs a n h =

@@ -2,11 +2,12 @@
 -- jobs, with nobody named (`run-opens`, `dealt-run-opens`); also where up to e files hold something else somewhere in the run, with exactly those
 -- named whose total is changed by it (`changed-run-opens`). The opened total reads as the sum of the jobs' signed values where that is in range
 -- (`jobs-signed`). Runs from a to b and from b to c that open add up to that from a to c (`runs-join`), and an empty run opens to zero words
--- (`empty-run`). And one dealt job opens by its place (`place-opens-dealt`). Assumes nothing.
+-- (`empty-run`). And one dealt job opens by its place (`place-opens-dealt`), also where up to e files hold something else there, wide words among it
+-- (`place-opens-changed`). Assumes nothing.
 use mathlib.Core.Path.{_≡_, refl, sym, ap, ap₂, _∙_, subst}
 use mathlib.Core.Bool.{Bool, true, false, not}
 use mathlib.Core.List.{List, [], _∷_}
-use Prim.Native.Nat.{ℕ, zero, suc, _+_, _-_, _/_, _%_, _^_, _≤_, _<_}
+use Prim.Native.Nat.{ℕ, zero, suc, _+_, _-_, _%_, _^_, _≤_, _<_}
 use native.Mathlib.Nat.{le-trans, zero-div}
 use native.Mathlib.Omega.{arith}
 use lib.ListN.{getD, replicate}
@@ -39,7 +40,7 @@ use Rattle.totals.specs.Values.{valuesFrom}
 use Rattle.totals.proofs.Sums.{sum-same, sum-signed}
 use Rattle.totals.proofs.Totals.{total-split, run-join}
 use Rattle.totals.proofs.Values.{every-each, every-all}
-use Rattle.archive.specs.Archive.{shareBy, sharesBy, sharesOver, openPlace, openRun}
+use Rattle.archive.specs.Archive.{shareBy, sharesBy, sharesAt, sharesOver, openPlace, openRun}
 use Rattle.archive.specs.Clear.{PlaceClear, RunClear, Enough}
 use Rattle.archive.specs.Dealt.{Polys, freeTerms, sumPolys, sumPoly, sumOfJobs, holdsDealt, changedFiles, named}
 use Rattle.archive.specs.Dealt.{BundleOpensTo, PlaceOpensTo, RunOpensTo}
@@ -201,27 +202,34 @@ jobs-signed bs q n j z polys l =
     sum-signed (paramsOf bs .k) (paramsOf bs .d) (freeTerms q) j n (range bs z .k-low) l
     (λ i u. free-element (paramsOf bs .k) (paramsOf bs .d) (paramsOf bs .t) (q i) (polys i u) .0)
 
--- one dealt job, at a place
+-- ---- one dealt job, at a place
+
+-- up to e files hold something else there, whatever it is: a wide word too
+pub place-opens-changed : (bs : List ℕ) (q : Polynomial) (p n w : ℕ) → IsPoly (paramsOf bs .k) (paramsOf bs .d) (paramsOf bs .t) q →
+    PlaceClear bs p n w → Enough bs → changedFiles bs (λ i. q) p 1 ≤ allowanceOf bs →
+    PlaceOpensTo bs p n w q (getD q 0 []) (errorSet (paramsOf bs .k) (paramsOf bs .d) q (sharesAt bs p))
+place-opens-changed bs q p n w poly c m h =
+    let e : p + 0 ≡ p = omega arith in
+    opens-to bs (sharesAt bs p) (openPlace bs p n w) q (getD q 0 []) _
+    (place-decides bs p n w c m .finds q
+    (record {
+      poly = poly;
+      near =
+          le-trans
+          (near bs (λ f. wordsOf bs f p) q (holdsDealt bs (λ i. q) p 1)
+          (λ f x. ap (wordsOf bs f) (sym e) ∙ dealt-words bs (c .no-fault) (λ i. q) p 1 (λ i l. poly) f x 0 (omega arith)) 0 (filesOf bs)) h;
+    }))
+    refl refl
+
+-- all files hold what was dealt
 pub place-opens-dealt : (bs : List ℕ) (q : Polynomial) (p n w : ℕ) → IsPoly (paramsOf bs .k) (paramsOf bs .d) (paramsOf bs .t) q →
-    bundleFault bs ≡ 0 → n ≡ paramsOf bs .d → w ≡ 1 → p < bundleHeading bs .jobs → Enough bs →
+    PlaceClear bs p n w → Enough bs →
     ((f : ℕ) → f < filesOf bs → wordsOf bs f p ≡ value (paramsOf bs .k) (paramsOf bs .d) q (point (paramsOf bs .d) (holderOf bs f))) →
     PlaceOpensTo bs p n w q (getD q 0 []) 0
-place-opens-dealt bs q p n w poly z o x l m h =
-    let k = paramsOf bs .k in
-    let d = paramsOf bs .d in
-    let c : PlaceClear bs p n w =
-    record {
-      no-fault = z;
-      output = o;
-      wrong-output = x;
-      place = l;
-      width =
-          every-all (λ f. allInWidth k (wordsOf bs f p)) (filesOf bs)
-          (λ f u.
-          ap (allInWidth k) (h f u)
-          ∙ value-element d (range bs z .d-low) (range bs z .d-high) k q (rows-of k d (paramsOf bs .t) q poly) (shareBy bs (λ g. []) f) .1);
-    } in
-    all-right bs (λ f. wordsOf bs f p) q (openPlace bs p n w) (place-decides bs p n w c m) poly (getD q 0 []) refl h
+place-opens-dealt bs q p n w poly c m =
+    all-right bs (λ f. wordsOf bs f p) q (openPlace bs p n w) (place-decides bs p n w c m) poly (getD q 0 []) refl
+
+-- ---- runs that follow each other, and an empty one
 
 -- "an empty run totals to zero words"
 pub empty-run : (bs : List ℕ) (a n w : ℕ) → bundleFault bs ≡ 0 → n ≡ paramsOf bs .d → w ≡ 1 → a ≤ bundleHeading bs .jobs → Enough bs →
@@ -233,8 +241,6 @@ empty-run bs a n w z o x l m =
     subst (λ (j : ℕ). RunOpensTo bs a a n w (sumPoly bs q j) (sumOfJobs bs q j) 0) e
     (run-opens bs q a a n w (λ i u. absurd (omega arith)) z o x (omega arith) l m
     (λ f u. every-all _ (a - a) (λ i v. absurd (omega arith))))
-
--- ---- runs that follow each other
 
 -- words in width, of all files
 clear-join : (bs : List ℕ) (a b c n w : ℕ) → RunClear bs a b n w → RunClear bs b c n w → RunClear bs a c n w

@@ -1,11 +1,11 @@
--- Openings from a bundle, by place and by run, paper 01, "When a call declines": each call first reads it all; "Then come [..] 2, 9, 3, 5, 6."
+-- Openings from a bundle, by place and by run, paper 01, "When a call declines": each call first reads it all; "Then come [..] 2, 9, 3, 5, 6.", of which
+-- 3 is left to runs by paper 02, K1.
 -- What is said of a place, a run and their shares is of a bundle that has no fault. Assumes nothing.
 use Prim.Native.Nat.{ℕ, _-_}
 use mathlib.Core.Bool.{Bool}
 use mathlib.Core.List.{List}
 use Rattle.words.specs.Faults.{lengthFault}
 use Rattle.words.specs.Refusal.{first, unless, WIDE-WORD}
-use Rattle.words.specs.Word.{allInWidth}
 use Rattle.galois.specs.Element.{Element}
 use Rattle.codewords.specs.Codeword.{Share}
 use Rattle.codewords.specs.Opening.{Opening, answerTo, unlessFault}
@@ -32,22 +32,17 @@ sharesAt bs p = sharesBy bs (λ f. wordsOf bs f p)
 abbrev pub sharesOver : List ℕ → ℕ → ℕ → List Share
 sharesOver bs a n = sharesBy bs (λ f. runTotal bs f a n)
 
--- ---- width: "A wide word counts only in the job or run opened or added."
+-- ---- opening shares of a bundle, with its e
 
--- the job at a place, and the n places from a on, of all files
-abbrev pub placeInWidth : List ℕ → ℕ → Bool
-placeInWidth bs p = every (λ f. allInWidth (paramsOf bs .k) (wordsOf bs f p)) (filesOf bs)
+-- the job at a place: "Opening one job no longer gives 3" (paper 02, K1)
+unfoldable pub placeOpening : List ℕ → ℕ → Opening
+placeOpening bs p = answerTo (paramsOf bs) (allowanceOf bs) (sharesAt bs p)
 
+-- the words of the n places from a on, of all files: "A wide word counts only in the [..] run opened or added."
 abbrev pub filesInWidth : List ℕ → ℕ → ℕ → Bool
 filesInWidth bs a n = every (λ f. runInWidth bs f a n) (filesOf bs)
 
--- ---- opening shares of a bundle: 3, and then 5 and 6 with the bundle's e
-
--- the job at a place
-unfoldable pub placeOpening : List ℕ → ℕ → Opening
-placeOpening bs p = unlessFault (unless (placeInWidth bs p) WIDE-WORD) (answerTo (paramsOf bs) (allowanceOf bs) (sharesAt bs p))
-
--- the run of n places from a on: "the sums opened as one job's shares, with the bundle's e"
+-- the run of n places from a on: "the sums opened as one job's shares, with the bundle's e", after 3
 unfoldable pub runOpening : List ℕ → ℕ → ℕ → Opening
 runOpening bs a n = unlessFault (unless (filesInWidth bs a n) WIDE-WORD) (answerTo (paramsOf bs) (allowanceOf bs) (sharesOver bs a n))
 

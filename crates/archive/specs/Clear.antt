@@ -1,5 +1,6 @@
 -- What the theorems on opening a job or a run of a bundle speak of: that none of the refusals ahead of 5 applies, with an output of n words for the
--- job and one of w for the wrong holders; that the files are as many as are needed; and demand 3 of the calls by what they returned. Assumes nothing.
+-- job and one of w for the wrong holders; that the files are as many as are needed; and demand 3 of the calls by what they returned, also of wide
+-- words. Assumes nothing.
 use Prim.Native.Nat.{ℕ, _+_, _-_, _*_, _≤_, _<_}
 use mathlib.Core.Path.{_≡_}
 use mathlib.Core.Bool.{true}
@@ -7,9 +8,9 @@ use mathlib.Core.List.{List}
 use lib.ListN.{length}
 use Rattle.galois.specs.Element.{Element}
 use Rattle.codewords.specs.Codeword.{Polynomial, differs}
-use Rattle.codewords.specs.Demand.{Outputs, Returned, Tells}
+use Rattle.codewords.specs.Demand.{Outputs, Returned, Tells, TellsWide}
 use Rattle.bundle.specs.Bundle.{bundleHeading, bundleFault, paramsOf, allowanceOf, filesOf, holderOf}
-use Rattle.archive.specs.Archive.{shareBy, sharesAt, sharesOver, placeInWidth, filesInWidth, openPlace, openRun}
+use Rattle.archive.specs.Archive.{shareBy, sharesAt, sharesOver, filesInWidth, openPlace, openRun}
 
 -- of the job at place p
 pub record PlaceClear (bs : List ℕ) (p n w : ℕ) : Type 0 where
@@ -17,7 +18,6 @@ pub record PlaceClear (bs : List ℕ) (p n w : ℕ) : Type 0 where
   pub output : n ≡ paramsOf bs .d
   pub wrong-output : w ≡ 1
   pub place : p < bundleHeading bs .jobs
-  pub width : placeInWidth bs p ≡ true
 
 -- of the run of the places a to b - 1
 pub record RunClear (bs : List ℕ) (a b n w : ℕ) : Type 0 where
@@ -41,7 +41,12 @@ abbrev pub PlaceTells : List ℕ → ℕ → Outputs → ℕ → Outputs → Typ
 PlaceTells bs p old =
     Tells (paramsOf bs) (allowanceOf bs) (sharesAt bs p) (PlaceClear bs p (length (old .job)) (length (old .wrong))) old
 
--- the same for `open_run` on the run from a to b: "the sums opened as one job's shares, with the bundle's e"
+-- and of the files that have a wide word at the place (paper 02, K1)
+abbrev pub PlaceTellsWide : List ℕ → ℕ → Outputs → ℕ → Outputs → Type 0
+PlaceTellsWide bs p old =
+    TellsWide (paramsOf bs) (allowanceOf bs) (sharesAt bs p) (PlaceClear bs p (length (old .job)) (length (old .wrong)))
+
+-- the contract of `open_run` on the run from a to b: "the sums opened as one job's shares, with the bundle's e"
 abbrev pub RunReturned : List ℕ → ℕ → ℕ → Outputs → ℕ → Outputs → Type 0
 RunReturned bs a b old =
     Returned (paramsOf bs) (sharesOver bs a (b - a)) (openRun bs a b (length (old .job)) (length (old .wrong))) old

@@ -9,12 +9,13 @@ ghost use Rattle.galois.specs.Element.{held};
 ghost use Rattle.polynomial.specs.Rows.{Shaped};
 ghost use Rattle.codewords.specs.Opening.{faultOf, secretInto, wrongOf, wrongInto, openingIn};
 ghost use Rattle.codewords.specs.WellFormed.{InWidth};
+ghost use Rattle.level.specs.Shares.{Sized};
 ghost use Rattle.bundle.specs.Bundle.{bundleFault, bundleHeading, filesOf, paramsOf, holderOf};
 ghost use Rattle.bundle.specs.Contents.{wordsOf};
 ghost use Rattle.totals.specs.Total.{runTotal};
 ghost use Rattle.totals.specs.Values.{valuesFrom};
-ghost use Rattle.archive.specs.Archive.{sharesAt, sharesOver, placeInWidth, filesInWidth, placeOpening, runOpening, openPlace, openRun};
-ghost use Rattle.archive.specs.Loaded.{sharesIn, openingOf};
+ghost use Rattle.archive.specs.Archive.{sharesAt, sharesOver, filesInWidth, placeOpening, runOpening, openPlace, openRun};
+ghost use Rattle.archive.specs.Loaded.{sharesIn, openingOf, placeInWidth};
 use decoder::Opened;
 use records::Heading;
 
@@ -84,39 +85,34 @@ fn load_run(
     seen
 }
 
-// The shares in the rows, one of each file, opened under the files' holders with the bundle's error bound; `seen` is all their words together,
-// bit by bit, before any sum. The shares' rows are room for the search: only how many they are is promised of them after.
+// The shares in the rows, one of each file, opened under the files' holders with the bundle's error bound; `narrow` tells that no word is wide.
+// The shares' rows are room for the search: only how many they are is promised of them after.
 fn decode_files(
     bytes: &[u8],
     h: Heading,
     files: usize,
-    seen: u64,
+    narrow: bool,
     shares: &mut [[u64; 6]; 63],
     rows: &mut [[u64; 6]; 64],
 ) -> Opened
     requires { ⌜ (bundleFault (now bytes) ≡ 0) × (h ≡ bundleHeading (now bytes)) × (files ≡ filesOf (now bytes))
-        × (inWidth (h .params .k) seen ≡ true → InWidth (h .params .k) (h .params .d) (sharesIn (now bytes) (now shares)))
+        × Sized (h .params .d) (sharesIn (now bytes) (now shares))
+        × (narrow ≡ true → InWidth (h .params .k) (h .params .d) (sharesIn (now bytes) (now shares)))
         × (length (now shares) ≡ 63) × Shaped (now rows) ⌝ }
     ensures opening { λ r. ⌜ openingIn (h .params .d) (h .params .t) (r .fault) (now (rows .exit))
-        ≡ openingOf (now (bytes .entry)) seen (now (shares .entry)) ⌝ }
+        ≡ openingOf (now (bytes .entry)) (now (shares .entry)) ⌝ }
     ensures wrong { λ r. ⌜ r .wrong ≡ wrongOf (h .params .k) (h .params .d) (sharesIn (now (bytes .entry)) (now (shares .entry)))
-        (openingOf (now (bytes .entry)) seen (now (shares .entry))) ⌝ }
+        (openingOf (now (bytes .entry)) (now (shares .entry))) ⌝ }
     ensures shaped { λ _. ⌜ Shaped (now (rows .exit)) ⌝ }
     ensures room { λ _. ⌜ length (now (shares .exit)) ≡ 63 ⌝ }
 {
-    if !words::in_width(h.params.k, seen) {
-        return Opened {
-            fault: words::WIDE_WORD,
-            wrong: 0,
-        };
-    }
     let mut holders = load_holders(bytes, h, files);
     let p = h.params;
     let e = bundle::allowance(bytes);
-    decoder::decode(p, files, &mut holders, shares, e, rows)
+    decoder::decode(p, files, &mut holders, shares, narrow, e, rows)
 }
 
-// What the job at a place of an accepted bundle opens to: the fault 3, 5, 6 or 0 and the wrong holders; the polynomial in the lent rows.
+// What the job at a place of an accepted bundle opens to: the fault 5, 6 or 0 and the wrong holders; the polynomial in the lent rows.
 pub fn place_opening(
     bytes: &[u8],
     h: Heading,
@@ -133,10 +129,11 @@ pub fn place_opening(
 {
     let mut shares = [[0u64; 6]; 63];
     let seen = load_place(bytes, h, files, place, &mut shares);
-    decode_files(bytes, h, files, seen, &mut shares, rows)
+    let narrow = words::in_width(h.params.k, seen);
+    decode_files(bytes, h, files, narrow, &mut shares, rows)
 }
 
-// What the places a to b - 1 open to, their shares added in each file.
+// What the places a to b - 1 open to, their shares added in each file: the fault is 3 where a word of any of them is wide.
 fn run_opening(
     bytes: &[u8],
     h: Heading,
@@ -154,7 +151,13 @@ fn run_opening(
 {
     let mut shares = [[0u64; 6]; 63];
     let seen = load_run(bytes, h, files, a, b, &mut shares);
-    decode_files(bytes, h, files, seen, &mut shares, rows)
+    if !words::in_width(h.params.k, seen) {
+        return Opened {
+            fault: words::WIDE_WORD,
+            wrong: 0,
+        };
+    }
+    decode_files(bytes, h, files, true, &mut shares, rows)
 }
 
 // Opens the job at a place: its words go to the first output, the set of the wrong holders to the second.

@@ -77,7 +77,7 @@ no-ones = refl
 
 module _ (b : Share → Bool) where
   -- the bit of a holder that is not there is clear
-  set-clear : (ss : List Share) (j : ℕ) → All (λ (s : Share). 1 ≤ s .holder) ss → Different ss → All (λ (s : Share). suc j ≢ s .holder) ss →
+  pub set-clear : (ss : List Share) (j : ℕ) → All (λ (s : Share). 1 ≤ s .holder) ss → Different ss → All (λ (s : Share). suc j ≢ s .holder) ss →
       setOf b ss / 2 ^ j % 2 ≡ 0
   unfolding tally
   set-clear [] j a u n = rw (zero-div (2 ^ j))

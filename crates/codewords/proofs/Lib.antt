@@ -10,4 +10,5 @@ pub mod Residue
 pub mod Tells
 pub mod Unique
 pub mod Value
+pub mod Wide
 pub mod Without

@@ -1,17 +1,19 @@
--- Openings: their cases, what demand 3 says of the answer to shares (`answer-decides`), and how a number and rows stand for one (`handed`).
--- Assumes nothing.
+-- Openings: their cases, none of which is 3 (`answer-states`, `never-wide`), what demand 3 says of the answer to shares (`answer-decides`), and how a
+-- number and rows stand for one (`handed`). Assumes nothing.
 use mathlib.Core.Path.{_≡_, refl, sym, _∙_, ap}
-use mathlib.Core.Bool.{true}
+use mathlib.Core.Bool.{Bool, true, false, true≢false, cond, not}
+use mathlib.Core.Logic.{inl, inr}
 use mathlib.Core.List.{List, [], _∷_}
 use mathlib.Core.Option.{Option, none, some}
 use Prim.Native.Nat.{ℕ, zero, suc, _+_, _*_, _≤_, _<_}
 use native.Mathlib.Nat.{suc-ne-zero}
 use native.Mathlib.Decide.{decLe}
 use native.Mathlib.Omega.{arith}
+use lib.Dec.{leb, eqb}
 use lib.ListN.{length, take, getD}
 use borrow.Author.Tests.{le-leb, lt-leb}
 use Rattle.words.specs.Params.{paramsOk}
-use Rattle.words.specs.Refusal.{kept, TOO-FEW-SHARES, NO-CODEWORD}
+use Rattle.words.specs.Refusal.{kept, WIDE-WORD, TOO-FEW-SHARES, NO-CODEWORD}
 use Rattle.words.specs.declared.Params.{Params}
 use Rattle.words.proofs.InRange.{ok-range}
 use Rattle.algebra.proofs.Shares.{all-map}
@@ -20,7 +22,7 @@ use Rattle.polynomial.proofs.Shape.{shaped-length}
 use Rattle.codewords.specs.Codeword.{Share, Polynomial, codeword}
 use Rattle.codewords.specs.Demand.{Within, NoneWithin, Decides}
 use Rattle.codewords.specs.Opening.{Opening, declines, opens, faultOf, secretInto, wrongOf, wrongInto, unlessFault}
-use Rattle.codewords.specs.Opening.{fromCodeword, answerTo, openingIn}
+use Rattle.codewords.specs.Opening.{fromCodeword, answerTo, JobState, openingIn}
 use Rattle.codewords.specs.WellFormed.{IsPoly, Holders}
 use Rattle.codewords.proofs.ErrorSet.{ones-errors}
 use Rattle.codewords.proofs.Unique.{codeword-sound, codeword-none, none-codeword, codeword-complete}
@@ -58,6 +60,28 @@ pub answer-from : (p : Params) (e : ℕ) (ss : List Share) → p .t + 1 + 2 * e 
 unfolding answerTo
 answer-from p e ss h = rw (le-leb (p .t + 1 + 2 * e) (length ss) h)
 
+pub answer-states : (p : Params) (e : ℕ) (ss : List Share) → JobState (answerTo p e ss)
+unfolding answerTo
+answer-states p e ss = go (leb (p .t + 1 + 2 * e) (length ss)) (codeword (p .k) (p .d) (p .t) e ss)
+  where
+    go : (b : Bool) (c : Option Polynomial) → JobState (cond b (fromCodeword c) (declines TOO-FEW-SHARES))
+    go true (some q) = inl (q, refl)
+    go true none = inr (inr refl)
+    go false c = inr (inl refl)
+
+-- a number that is not 3; and with no 3 ahead of it one job never gives 3
+abbrev pub narrow : ℕ → Bool
+narrow c = not (eqb c WIDE-WORD)
+
+pub never-wide : (c : ℕ) (o : Opening) → narrow c ≡ true → JobState o → faultOf (unlessFault c o) ≡ WIDE-WORD → ⊥
+never-wide c o g s e = true≢false (sym (past c g s) ∙ ap narrow e)
+  where
+    past : (c : ℕ) → narrow c ≡ true → JobState o → narrow (faultOf (unlessFault c o)) ≡ true
+    past (suc c) g x = g
+    past zero g (inl x) = ap (λ y. narrow (faultOf y)) (x .1)
+    past zero g (inr (inl x)) = ap (λ y. narrow (faultOf y)) x
+    past zero g (inr (inr x)) = ap (λ y. narrow (faultOf y)) x
+
 -- what opens is a polynomial of degree at most t
 pub answer-poly : (p : Params) (e : ℕ) (ss : List Share) (q : Polynomial) → answerTo p e ss ≡ opens q → IsPoly (p .k) (p .d) (p .t) q
 answer-poly p e ss q g = at (decLe (p .t + 1 + 2 * e) (length ss))
@@ -70,10 +94,6 @@ answer-poly p e ss q g = at (decLe (p .t + 1 + 2 * e) (length ss))
     at : Dec (p .t + 1 + 2 * e ≤ length ss) → IsPoly (p .k) (p .d) (p .t) q
     at (yes h) = go h (codeword (p .k) (p .d) (p .t) e ss) refl
     at (no h) = opens-not (sym g ∙ answer-few p e ss (omega arith))
-
-pub unless-opens : (c : ℕ) (o : Opening) (q : Polynomial) → unlessFault c o ≡ opens q → o ≡ opens q
-unless-opens zero o q g = g
-unless-opens (suc c) o q g = opens-not (sym g)
 
 -- demand 3
 module _ (p : Params) (ok : paramsOk p ≡ true) (e : ℕ) (ss : List Share) (holders : Holders (p .d) ss) (enough : p .t + 1 + 2 * e ≤ length ss) where

@@ -1,49 +1,32 @@
 -- Demand 3 of a call, by what it returned (`tells`), whatever the refusals ahead of 5 and 6 are: all that is asked of them is a number that is 0
--- exactly when none applies, and neither 5 nor 6 (`Ahead`). Assumes nothing.
+-- exactly when none applies, and neither 5 nor 6 (`Ahead`). The same of shares with a wide word (`tells-wide`). Assumes nothing.
 use mathlib.Core.Path.{_≡_, refl, sym, _∙_, ap, subst}
 use mathlib.Core.Bool.{Bool, true, false, true≢false, not, _||_}
 use mathlib.Core.Logic.{_⊎_, inl, inr, ⊎-elim}
-use mathlib.Core.List.{List}
-use Prim.Native.Nat.{ℕ, zero, suc, _+_, _*_}
+use mathlib.Core.List.{List, [], _∷_, List·Memᴰ, List·Memᴰ·head, List·Memᴰ·tail}
+use Prim.Native.Nat.{ℕ, _+_, _*_, _^_, _≤_, _<_}
 use native.Mathlib.Decide.{decLe, ℕ-discrete}
 use native.Mathlib.Omega.{arith}
 use lib.Dec.{eqb}
-use lib.ListN.{length}
+use lib.ListN.{length, getD}
+use Rattle.algebra.specs.Shares.{All}
 use Rattle.words.specs.Params.{paramsOk}
-use Rattle.words.specs.Faults.{lengthFault}
-use Rattle.words.specs.Refusal.{first, unless, firstOf, LENGTH, TOO-FEW-SHARES, NO-CODEWORD}
+use Rattle.words.specs.Refusal.{TOO-FEW-SHARES, NO-CODEWORD}
 use Rattle.words.specs.declared.Params.{Params}
-use Rattle.codewords.specs.Codeword.{Share, Polynomial, errorSet}
-use Rattle.codewords.specs.Demand.{Within, NoneWithin, Decides, Outputs, Returned, EnoughShares, TooFewShares, Exact, Tells}
+use Rattle.words.proofs.InRange.{InRange, ok-range}
+use Rattle.codewords.specs.Codeword.{Share, Polynomial, errorSet, wide}
+use Rattle.codewords.specs.Demand.{Within, NoneWithin, Decides, Outputs, Returned, EnoughShares, TooFewShares, Wrong, bitFor, Exact, Tells, TellsWide}
 use Rattle.codewords.specs.Opening.{Opening, declines, opens, faultOf, secretInto, wrongInto, unlessFault, answerTo}
 use Rattle.codewords.specs.WellFormed.{Holders}
 use Rattle.codewords.proofs.ErrorSet.{bit-wrong, bit-right}
+use Rattle.codewords.proofs.Wide.{wide-differs, wide-none}
 use Rattle.codewords.proofs.Opening.{opens-inj, opens-not, unless-none, unless-some, answer-few, answer-decides}
 
 -- ---- refusals ahead of 5 and 6
 
--- neither 5 nor 6, of a first fault by its parts
+-- neither 5 nor 6
 abbrev pub other : ℕ → Bool
 other c = not (eqb c TOO-FEW-SHARES || eqb c NO-CODEWORD)
-
-pub other-first : (a b : ℕ) → other a ≡ true → other b ≡ true → other (first a b) ≡ true
-unfolding first
-other-first zero b g h = h
-other-first (suc a) b g h = g
-
-pub other-unless : (b : Bool) (c : ℕ) → other c ≡ true → other (unless b c) ≡ true
-unfolding unless
-other-unless true c h = refl
-other-unless false c h = h
-
-pub other-firstOf : (f : ℕ → ℕ) (n : ℕ) → ((i : ℕ) → other (f i) ≡ true) → other (firstOf f n) ≡ true
-unfolding firstOf
-other-firstOf f zero h = refl
-other-firstOf f (suc n) h = other-first (firstOf f n) (f n) (other-firstOf f n h) (h n)
-
-pub other-length : (needed n : ℕ) → other (lengthFault needed n) ≡ true
-unfolding lengthFault
-other-length needed n = other-unless (eqb n needed) LENGTH refl
 
 -- f is the first of them, 0 exactly when Clear holds, by which the parameters are in their ranges and the holders as they should be
 pub record Ahead (p : Params) (ss : List Share) (Clear : Type 0) (f : ℕ) : Type 0 where
@@ -167,3 +150,32 @@ module _ (p : Params) (e : ℕ) (ss : List Share) {Clear : Type 0} {f : ℕ} (ah
 
     pub tells : Tells p e ss Clear old r new
     tells = told cases
+
+    pub tells-wide : TellsWide p e ss Clear r new
+    tells-wide =
+        record {
+          named = λ z. let x = tells .exact z in let c = tells .opened .0 z .0 in each x c ss (λ s m. m) (ahead .holders c .0);
+          too-many = λ c m h. tells .no-curve .1 (c, m, let b = range c in wide-none (p .d) (b .d-low) (b .d-high) (p .k) (p .t) ss (ahead .holders c) e h);
+        }
+      where
+        range : Clear → InRange p
+        range c = ok-range p (ahead .params c)
+
+        one : (x : Exact p e ss new) → Clear → (s : Share) → List·Memᴰ s ss → 1 ≤ s .holder → wide (p .k) s ≡ true →
+            bitFor (s .holder) (getD (new .wrong) 0 0) ≡ 1
+        one x c s m l v =
+            let b = range c in
+            rw (x .wrong)
+            (x .named (s .holder) l .1
+            (record {
+              share = s;
+              present = m;
+              under = refl;
+              differing = wide-differs (p .d) (b .d-low) (b .d-high) (p .k) (p .t) (x .q) (x .within .poly) s v;
+            }))
+
+        each : (x : Exact p e ss new) → Clear → (rs : List Share) → ((s : Share) → List·Memᴰ s rs → List·Memᴰ s ss) →
+            All (λ (s : Share). (1 ≤ s .holder) × (s .holder < 2 ^ (p .d))) rs →
+            All (λ (s : Share). wide (p .k) s ≡ true → bitFor (s .holder) (getD (new .wrong) 0 0) ≡ 1) rs
+        each x c [] i h = tt
+        each x c (s ∷ rs) i h = (one x c s (i s (List·Memᴰ·head refl)) (h .0 .0), each x c rs (λ r m. i r (List·Memᴰ·tail m)) (h .1))

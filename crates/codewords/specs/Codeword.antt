@@ -5,6 +5,7 @@ use mathlib.Core.Bool.{Bool, cond, not}
 use mathlib.Core.List.{List, [], _∷_}
 use mathlib.Core.Option.{Option}
 use lib.Dec.{leb}
+use Rattle.words.specs.Word.{allInWidth}
 use Rattle.galois.specs.Element.{Element, point, same, elements, tuples, find}
 pub use Rattle.polynomial.specs.Polynomial.{Polynomial}
 unfoldable pub use Rattle.polynomial.specs.Polynomial.{value}
@@ -33,6 +34,17 @@ unfoldable pub errorSet : ℕ → ℕ → Polynomial → List Share → ℕ
 unfolding differs
 errorSet k d p [] = 0
 errorSet k d p (s ∷ ss) = when (differs k d p s) (2 ^ (s .holder - 1)) + errorSet k d p ss
+
+-- "a share with a word of 2^k or more" (paper 02, K1): it "counts as present and as differing from every polynomial", by the words as they stand
+unfoldable pub wide : ℕ → Share → Bool
+unfolding allInWidth
+wide k s = not (allInWidth k (s .words))
+
+-- the set of the holders of such shares
+unfoldable pub wideSet : ℕ → List Share → ℕ
+unfolding wide
+wideSet k [] = 0
+wideSet k (s ∷ ss) = when (wide k s) (2 ^ (s .holder - 1)) + wideSet k ss
 
 -- all polynomials of degree at most t
 unfoldable pub polynomials : ℕ → ℕ → ℕ → List Polynomial

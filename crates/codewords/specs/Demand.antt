@@ -7,9 +7,10 @@ use mathlib.Core.List.{List, [], _∷_, List·Memᴰ}
 use mathlib.Core.Logic.{_⊎_, _↔_}
 use lib.Count.{ones}
 use lib.ListN.{length, getD}
+use Rattle.algebra.specs.Shares.{All}
 use Rattle.words.specs.Refusal.{TOO-FEW-SHARES, NO-CODEWORD}
 use Rattle.words.specs.declared.Params.{Params}
-use Rattle.codewords.specs.Codeword.{Share, Polynomial, differs, errors, errorSet}
+use Rattle.codewords.specs.Codeword.{Share, Polynomial, differs, errors, errorSet, wide, wideSet}
 use Rattle.codewords.specs.Opening.{Opening, declines, opens, faultOf, secretInto, wrongInto}
 use Rattle.codewords.specs.WellFormed.{IsPoly}
 
@@ -86,3 +87,8 @@ pub record Tells (p : Params) (e : ℕ) (ss : List Share) (Clear : Type 0) (old 
   pub too-few : (r ≡ TOO-FEW-SHARES) ↔ (Clear × TooFewShares p e ss)
   pub exact : r ≡ 0 → Exact p e ss new
   pub kept : (r ≡ 0 → ⊥) → new ≡ old
+
+-- The same of shares with a wide word, paper 02, K1: "It uses up the allowance and its holder is named."
+pub record TellsWide (p : Params) (e : ℕ) (ss : List Share) (Clear : Type 0) (r : ℕ) (new : Outputs) : Type 0 where
+  pub named : r ≡ 0 → All (λ (s : Share). wide (p .k) s ≡ true → bitFor (s .holder) (getD (new .wrong) 0 0) ≡ 1) ss
+  pub too-many : Clear → EnoughShares p e ss → e < ones (wideSet (p .k) ss) → r ≡ NO-CODEWORD

@@ -1,7 +1,9 @@
 -- What shares open to, paper 01, "Ring, points, shares" and "When a call declines": a refusal's number or a polynomial. The job's words and the
 -- wrong holders are functions of it and the shares. Assumes nothing.
 use Prim.Native.Nat.{ℕ, zero, suc, _+_, _*_}
+use mathlib.Core.Path.{_≡_}
 use mathlib.Core.Bool.{cond}
+use mathlib.Core.Logic.{_⊎_}
 use mathlib.Core.List.{List, [], _∷_}
 use mathlib.Core.Option.{Option, none, some}
 use lib.Dec.{leb}
@@ -51,6 +53,10 @@ unfoldable pub answerTo : Params → ℕ → List Share → Opening
 unfolding codeword
 answerTo p e ss =
     cond (leb (p .t + 1 + 2 * e) (length ss)) (fromCodeword (codeword (p .k) (p .d) (p .t) e ss)) (declines TOO-FEW-SHARES)
+
+-- "Opening one job no longer gives 3" (paper 02, K1): what is left is a polynomial, 5 or 6
+abbrev pub JobState : Opening → Type 0
+JobState o = ((q : Polynomial) × (o ≡ opens q)) ⊎ ((o ≡ declines TOO-FEW-SHARES) ⊎ (o ≡ declines NO-CODEWORD))
 
 -- the opening that a number and the rows of a polynomial of degree at most t stand for, as the code has them
 abbrev pub openingIn : ℕ → ℕ → ℕ → Rows → Opening

@@ -1,5 +1,5 @@
--- Shares compared with zero, one by one: which of them are not zero, by their bits, and a turn of the loop that collects their holders; and
--- where they are what a polynomial leaves of shares, that these are the ones that differ from it (`left-set`). Assumes nothing.
+-- Shares compared with zero, one by one: which of them are not zero, by their bits, and a turn of the loop that collects these; and where they are
+-- what a polynomial leaves of shares, that these are the ones that differ from it (`left-set`). Assumes nothing.
 use mathlib.Core.Path.{_≡_, refl, sym, _∙_, ap, ap₂}
 use mathlib.Core.Bool.{Bool, true, false, not, _&&_}
 use mathlib.Core.List.{List, [], _∷_, _++_, map}
@@ -99,44 +99,15 @@ module _ (d : ℕ) (dl : 2 ≤ d) (dh : d ≤ 6) (k t : ℕ) (p : Polynomial) (i
       let u = residue k d p s in
       ap₂ bitOr (left-bits ss (a .1)) (bits-held d u dh ∙ ap bitsOf (take-all d u (le-of-eq (length-left s (a .0)))))
 
--- the loop
-module _ (m : ℕ) (hs : List ℕ) (ys : Rows) (a : Holders 6 (sharesOf 6 m hs ys)) where
-  abbrev setFrom : ℕ → ℕ
-  setFrom i = errorSet 64 6 [] (sharesFrom 6 hs ys i (m - i))
-
+-- a turn of the loop: the bits
+module _ (m : ℕ) (hs : List ℕ) (ys : Rows) where
   abbrev bitsFrom : ℕ → ℕ
   bitsFrom i = bitsOfAll (sharesFrom 6 hs ys i (m - i))
 
-  pub compare-start : (0 ≡ setFrom m) × (0 ≡ bitsFrom m)
-  unfolding errorSet bitsOfAll
-  compare-start = rw (from-start 6 hs ys m) (refl, refl)
+  pub bits-start : 0 ≡ bitsFrom m
+  unfolding bitsOfAll
+  bits-start = rw (from-start 6 hs ys m) refl
 
-  module _ (i : ℕ) (h : 0 < i) (l : i ≤ m) where
-    next : Holders 6 (shareAt 6 hs ys (i - 1) ∷ sharesFrom 6 hs ys i (m - i))
-    next = rw (from-next 6 hs ys i m h l) at (holders-from 6 hs ys (i - 1) m (omega arith) a)
-
-    -- the holder's bit fits
-    pub holder-low : 1 ≤ getD hs (i - 1) 0
-    holder-low = next .0 .0 .0
-
-    pub holder-high : getD hs (i - 1) 0 ≤ 63
-    holder-high = omega (arith, next .0 .0 .1)
-
-    pub bits-more : (b w : ℕ) → b ≡ bitsOf (take 6 (getD ys (i - 1) [])) → w ≡ bitsFrom i → bitOr w b ≡ bitsFrom (i - 1)
-    unfolding bitsOfAll
-    bits-more b w eb ew = rw (from-next 6 hs ys i m h l, eb, ew)
-
-    pub set-same : differs 64 6 [] (shareAt 6 hs ys (i - 1)) ≡ false → setFrom i ≡ setFrom (i - 1)
-    unfolding errorSet
-    set-same e = rw (from-next 6 hs ys i m h l, e) (omega arith)
-
-    pub set-more : differs 64 6 [] (shareAt 6 hs ys (i - 1)) ≡ true → (w : ℕ) → w ≡ setFrom i →
-        bitOr w ((1 * 2 ^ (getD hs (i - 1) 0 - 1)) % 2 ^ 64) ≡ setFrom (i - 1)
-    unfolding errorSet
-    set-more e w q =
-        let j = getD hs (i - 1) 0 - 1 in
-        let b : (1 * 2 ^ j) % 2 ^ 64 ≡ 2 ^ j = mod-eq-of-lt (rw one-mul (pow-lt {i = j} {j = 64} (omega (arith, holder-high)))) ∙ one-mul (2 ^ j) in
-        let ss = sharesFrom 6 hs ys i (m - i) in
-        let n : suc j ≡ getD hs (i - 1) 0 = omega (arith, holder-low) in
-        let z : w / 2 ^ j % 2 ≡ 0 = rw q (bit-clear 64 6 [] ss j (all-map (λ s x. x .0) ss (next .0 .1)) (next .1 .1) (rw n (next .1 .0))) in
-        rw (b, or-new w j z, from-next 6 hs ys i m h l, e, q) (omega arith)
+  pub bits-more : (i : ℕ) → 0 < i → i ≤ m → (b w : ℕ) → b ≡ bitsOf (take 6 (getD ys (i - 1) [])) → w ≡ bitsFrom i → bitOr w b ≡ bitsFrom (i - 1)
+  unfolding bitsOfAll
+  bits-more i h l b w eb ew = rw (from-next 6 hs ys i m h l, eb, ew)

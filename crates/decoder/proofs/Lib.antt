@@ -1,4 +1,5 @@
 pub mod Arrays
+pub mod Collected
 pub mod Compared
 pub mod Dropped
 pub mod Interpolated
@@ -7,3 +8,4 @@ pub mod LevelFound
 pub mod Lowest
 pub mod Rows
 pub mod Rounds
+pub mod WideDropped

@@ -1,7 +1,7 @@
 -- The bits of what a polynomial leaves of shares, all words' bits together (`bitsOf`, `bitsOfAll`): where they are zero nothing is left; below
 -- the lowest of them no share differs from the polynomial, and at it some share does (`lowest`). Assumes nothing.
 use mathlib.Core.Path.{_≡_, refl, sym, _∙_, ap, ap₂}
-use mathlib.Core.Bool.{true}
+use mathlib.Core.Bool.{true, _&&_}
 use mathlib.Core.List.{List, [], _∷_, _++_, map}
 use Prim.Native.Nat.{ℕ, zero, suc, _+_, _*_, _-_, _/_, _%_, _^_, _≤_, _<_}
 use native.Mathlib.Nat.{mod-lt, div-one, div-div-eq-div-mul, pow-succ', pow-suc, pow-le-pow-right, zero-div}
@@ -10,17 +10,16 @@ use native.Mathlib.Decide.{decLe}
 use native.Mathlib.Omega.{arith}
 use lib.Bits.{bitOr, or-zero-l, or-zero-r, or-lt, or-shr, or-mod, or-add-and, and-le-l, and-le-r}
 use lib.Count.{trailingZeros, under}
-use lib.Dec.{lit<, ltb}
+use lib.Dec.{lit<}
 use lib.Pow.{pow-pos, shr-lt, split}
 use lib.ListN.{length, take, getD}
 use lib.Seq.{getD-take}
-use borrow.Author.Tests.{ltb-true}
-use Rattle.words.specs.Word.{allInWidth}
-use Rattle.words.proofs.Tests.{and-left, and-right}
+use Rattle.words.specs.Word.{inWidth, allInWidth}
+use Rattle.words.proofs.Width.{in-width-lt, lt-in-width, or-width}
 use Rattle.algebra.specs.Shares.{All}
 use Rattle.galois.specs.Element.{Element, zeroE, held}
 use Rattle.galois.proofs.Zip.{six-words}
-use Rattle.galois.proofs.Held.{zeros-after}
+use Rattle.galois.proofs.Held.{zeros-after, held-same, held-length}
 use Rattle.codewords.specs.Codeword.{Share, Polynomial}
 use Rattle.codewords.specs.Residue.{residue, left, bitOf, AgreeBelow}
 use Rattle.codewords.specs.WellFormed.{IsElement}
@@ -59,12 +58,13 @@ unfolding bitsOf bitOf
 bits-clear v [] h = rw (zero-div (2 ^ v))
 bits-clear v (w ∷ a) h = or-clear w (bitsOf a) v (h .0) (bits-clear v a (h .1))
 
-bits-width : (k : ℕ) (a : Element) → allInWidth k a ≡ true → bitsOf a < 2 ^ k
+bits-in-width : (k : ℕ) (a : Element) → inWidth k (bitsOf a) ≡ allInWidth k a
 unfolding bitsOf allInWidth
-bits-width k [] h = pow-pos k
-bits-width k (w ∷ a) h =
-    or-lt k w (bitsOf a) (ltb-true w (2 ^ k) (and-left (ltb w (2 ^ k)) (allInWidth k a) h))
-    (bits-width k a (and-right (ltb w (2 ^ k)) (allInWidth k a) h))
+bits-in-width k [] = lt-in-width k 0 (pow-pos k)
+bits-in-width k (w ∷ a) = or-width k w (bitsOf a) ∙ ap (λ b. inWidth k w && b) (bits-in-width k a)
+
+bits-width : (k : ℕ) (a : Element) → allInWidth k a ≡ true → bitsOf a < 2 ^ k
+bits-width k a h = in-width-lt k (bitsOf a) (bits-in-width k a ∙ h)
 
 -- in an array of six: zeros after the words have no bits
 bits-after : (a : Element) (n : ℕ) → bitsOf (a ++ zeroE n) ≡ bitsOf a
@@ -84,6 +84,13 @@ six-bits u h =
     ap (λ x. bitOr (getD u 0 0) (bitOr (getD u 1 0) (bitOr (getD u 2 0) (bitOr (getD u 3 0) (bitOr (getD u 4 0) x)))))
     (sym (or-zero-r (getD u 5 0)))
     ∙ ap bitsOf (sym (six-words u h))
+
+-- the first d words of an array are in width exactly when all six together are, with zeros after the d
+pub width-six : (k d : ℕ) (a : Element) → d ≤ 6 → length (take d a) ≡ d → inWidth k (sixBits (held d a)) ≡ allInWidth k (take d a)
+width-six k d a h l =
+    ap (inWidth k)
+    (six-bits (held d a) (ap length (held-same d a (take d a) refl l) ∙ held-length d (take d a) l h) ∙ bits-held d a h)
+    ∙ bits-in-width k (take d a)
 
 pub bits-six : (u : Element) → length (take 6 u) ≡ 6 → sixBits u ≡ bitsOf (take 6 u)
 bits-six u h = rw (← at 0 (lit< tt), ← at 1 (lit< tt), ← at 2 (lit< tt), ← at 3 (lit< tt), ← at 4 (lit< tt), ← at 5 (lit< tt)) (six-bits (take 6 u) h)

@@ -59,6 +59,14 @@ room b a (s ∷ ss) u l m h = omega (arith, below, up (s .holder) (l .0), room b
     below : 2 ^ a ≤ 2 ^ (s .holder - 1)
     below = pow-le-pow-right (omega arith) (omega (arith, l .0))
 
+holder-room : (d : ℕ) → d ≤ 6 → (ss : List Share) → Holders d ss → Rising ss → holderSet ss < 2 ^ 63
+holder-room d dh ss a u =
+    let few : 2 ^ d ≤ 2 ^ 6 = pow-le-pow-right (omega arith) dh in
+    omega (arith, room 63 0 ss u (all-map (λ s x. x .0) ss (a .0)) (all-map (λ s x. omega (arith, x .1, few)) ss (a .0)) (omega arith))
+
+pub error-set-room : (k d : ℕ) → d ≤ 6 → (p : Polynomial) (ss : List Share) → Holders d ss → Rising ss → errorSet k d p ss < 2 ^ 63
+error-set-room k d dh p ss a u = omega (arith, errorSet-le k d p ss, holder-room d dh ss a u)
+
 -- a codeword and its error set
 abbrev Outcome : Type 0
 Outcome = Polynomial × ℕ
@@ -101,14 +109,12 @@ module _ (k d t e₀ : ℕ) (ss₀ : List Share) where
 module _ (d : ℕ) (dl : 2 ≤ d) (dh : d ≤ 6) (k t e₀ : ℕ) (ss₀ : List Share) where
   pub start : Holders d ss₀ → Rising ss₀ → InWidth k d ss₀ → suc t + 2 * e₀ ≤ length ss₀ → Sought k d t e₀ ss₀ e₀ 0 ss₀
   start a u w m =
-      let few : 2 ^ d ≤ 2 ^ 6 = pow-le-pow-right (omega arith) dh in
-      let r = room 63 0 ss₀ u (all-map (λ s x. x .0) ss₀ (a .0)) (all-map (λ s x. omega (arith, x .1, few)) ss₀ (a .0)) (omega arith) in
       record {
         holders = a;
         rising = u;
         width = w;
         enough = m;
-        fits = omega (arith, r);
+        fits = omega (arith, holder-room d dh ss₀ a u);
         same = ap (λ (f : Polynomial → Outcome). Option·map f (codeword k d t e₀ ss₀)) (λ i p. outcome p (sym (zero-add (errorSet k d p ss₀)) i));
       }
 

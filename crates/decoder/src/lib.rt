@@ -1,14 +1,14 @@
 // Decoding: the polynomial of degree at most t that differs from e shares or fewer, if there is one, and the set of the holders whose shares
 // differ from it. The polynomial through the first t + 1 shares is the one if few enough of the others differ from it. If not, one decoding
 // over the field, at the lowest bit at which any share differs from it, names shares that differ from every codeword; they are dropped, and
-// the search goes on among the others with as much less to allow.
+// the search goes on among the others with as much less to allow. Shares with a wide word differ from every polynomial, and are dropped first.
 ghost use mathlib.Core.Path.{_≡_};
 ghost use mathlib.Core.Bool.{true};
 ghost use mathlib.Core.List.{[], _∷_};
 ghost use Prim.Native.Nat.{ℕ, suc, _+_, _*_, _≤_, _<_};
 ghost use lib.ListN.{length, take, getD, replicate};
 ghost use Rattle.polynomial.specs.Rows.{Shaped, coefs, reduceRows};
-ghost use Rattle.codewords.specs.Codeword.{errorSet, codeword};
+ghost use Rattle.codewords.specs.Codeword.{wideSet, errorSet, codeword};
 ghost use Rattle.codewords.specs.Opening.{wrongOf, fromCodeword, answerTo, openingIn};
 ghost use Rattle.codewords.specs.Residue.{without};
 ghost use Rattle.codewords.specs.WellFormed.{InWidth, Rising, Holders};
@@ -118,9 +118,8 @@ fn drop_wrong(w: u64, m: usize, hs: &mut [u64; 63], ys: &mut [[u64; 6]; 63]) -> 
     let mut i = 0;
     while i < m {
         let x = hs[i];
-        let y = ys[i];
         hs[j] = x;
-        ys[j] = y;
+        ys[j] = ys[i];
         j += 1 - ((w >> (x - 1)) % 2) as usize;
         i += 1;
     }
@@ -215,19 +214,95 @@ fn search(
     }
 }
 
-// What m shares under rising holders open to with the error bound e, of any size: the polynomial in `rows`, if there is no fault. The arrays
-// of holders and shares are room to work in: nothing is promised of them after but how long they are.
+// The holders whose shares have a wide word.
+fn wide_by(k: u64, d: usize, m: usize, hs: &[u64; 63], ys: &[[u64; 6]; 63]) -> u64
+    requires { ⌜ (d ≤ 6) × (m ≤ 63) × Holders d (sharesOf d m (now hs) (now ys)) × Sized d (sharesOf d m (now hs) (now ys))
+        × (length (now ys) ≡ 63) ⌝ }
+    ensures { λ r. ⌜ r ≡ wideSet k (sharesOf d m (now (hs .entry)) (now (ys .entry))) ⌝ }
+{
+    let mut set: u64 = 0;
+    let mut i = m;
+    while 0 < i {
+        i -= 1;
+        let u = ring::keep(d, ys[i]);
+        if !words::in_width(k, u[0] | (u[1] | (u[2] | (u[3] | (u[4] | u[5]))))) {
+            set = set | (1u64 << (hs[i] - 1));
+        }
+    }
+    set
+}
+
+// The same, with code for each d.
+fn wide_holders(k: u64, d: usize, m: usize, hs: &[u64; 63], ys: &[[u64; 6]; 63]) -> u64
+    requires { ⌜ ((2 ≤ d) × (d ≤ 6)) × (m ≤ 63) × Holders d (sharesOf d m (now hs) (now ys)) × Sized d (sharesOf d m (now hs) (now ys))
+        × (length (now ys) ≡ 63) ⌝ }
+    ensures { λ r. ⌜ r ≡ wideSet k (sharesOf d m (now (hs .entry)) (now (ys .entry))) ⌝ }
+{
+    match d {
+        2 => wide_by(k, 2, m, hs, ys),
+        3 => wide_by(k, 3, m, hs, ys),
+        4 => wide_by(k, 4, m, hs, ys),
+        5 => wide_by(k, 5, m, hs, ys),
+        _ => wide_by(k, 6, m, hs, ys),
+    }
+}
+
+// The search without the shares that have a wide word, which use up the bound: the same, of shares of any words.
+fn search_in_width(
+    k: u64,
+    d: usize,
+    t: usize,
+    m: usize,
+    hs: &mut [u64; 63],
+    ys: &mut [[u64; 6]; 63],
+    e: u64,
+    rows: &mut [[u64; 6]; 64],
+) -> Opened
+    requires { ⌜ ((1 ≤ k) × (k ≤ 64)) × ((2 ≤ d) × (d ≤ 6)) × (t ≤ 62) × (m ≤ 63) × (suc t + 2 * e ≤ m)
+        × Holders d (sharesOf d m (now hs) (now ys)) × Rising (sharesOf d m (now hs) (now ys)) × Sized d (sharesOf d m (now hs) (now ys))
+        × (length (now hs) ≡ 63) × (length (now ys) ≡ 63) × Shaped (now rows) ⌝ }
+    ensures opening { λ r. ⌜ openingIn d t (r .fault) (now (rows .exit))
+        ≡ fromCodeword (codeword k d t e (sharesOf d m (now (hs .entry)) (now (ys .entry)))) ⌝ }
+    ensures wrong { λ r. ⌜ r .wrong ≡ wrongOf k d (sharesOf d m (now (hs .entry)) (now (ys .entry)))
+        (fromCodeword (codeword k d t e (sharesOf d m (now (hs .entry)) (now (ys .entry))))) ⌝ }
+    ensures shaped { λ _. ⌜ Shaped (now (rows .exit)) ⌝ }
+    ensures room { λ _. ⌜ (length (now (hs .exit)) ≡ 63) × (length (now (ys .exit)) ≡ 63) ⌝ }
+{
+    let wide = wide_holders(k, d, m, hs, ys);
+    let errors = u64::count_ones(wide) as u64;
+    if e < errors {
+        return Opened {
+            fault: words::NO_CODEWORD,
+            wrong: 0,
+        };
+    }
+    let count = drop_wrong(wide, m, hs, ys);
+    let found = search(k, d, t, count, hs, ys, e - errors, rows);
+    if found.fault != 0 {
+        return found;
+    }
+    Opened {
+        fault: 0,
+        wrong: wide + found.wrong,
+    }
+}
+
+// What m shares under rising holders open to with the error bound e, of any size: the polynomial in `rows`, if there is no fault. `narrow` tells
+// that no word is wide, which saves looking. The arrays of holders and shares are room to work in: nothing is promised of them after but how
+// long they are.
 pub fn decode(
     p: words::Params,
     m: usize,
     holders: &mut [u64; 63],
     shares: &mut [[u64; 6]; 63],
+    narrow: bool,
     e: u64,
     rows: &mut [[u64; 6]; 64],
 ) -> Opened
     requires { ⌜ (paramsOk p ≡ true) × (m ≤ 63) × Ordered (p .n) (sharesOf (p .d) m (now holders) (now shares))
-        × InWidth (p .k) (p .d) (sharesOf (p .d) m (now holders) (now shares)) × (length (now holders) ≡ 63) × (length (now shares) ≡ 63)
-        × Shaped (now rows) ⌝ }
+        × Sized (p .d) (sharesOf (p .d) m (now holders) (now shares))
+        × (narrow ≡ true → InWidth (p .k) (p .d) (sharesOf (p .d) m (now holders) (now shares)))
+        × (length (now holders) ≡ 63) × (length (now shares) ≡ 63) × Shaped (now rows) ⌝ }
     ensures opening { λ r. ⌜ openingIn (p .d) (p .t) (r .fault) (now (rows .exit))
         ≡ answerTo p e (sharesOf (p .d) m (now (holders .entry)) (now (shares .entry))) ⌝ }
     ensures wrong { λ r. ⌜ r .wrong ≡ wrongOf (p .k) (p .d) (sharesOf (p .d) m (now (holders .entry)) (now (shares .entry)))
@@ -247,7 +322,10 @@ pub fn decode(
             wrong: 0,
         };
     }
-    search(p.k, p.d, p.t, m, holders, shares, e, rows)
+    if narrow {
+        return search(p.k, p.d, p.t, m, holders, shares, e, rows);
+    }
+    search_in_width(p.k, p.d, p.t, m, holders, shares, e, rows)
 }
 
 // Hands out what is opened: the job's words, which are the free term's, into an output of d words, the wrong holders into one of one word, and

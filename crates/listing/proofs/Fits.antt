@@ -3,22 +3,24 @@
 use mathlib.Core.Path.{_≡_, refl, subst}
 use mathlib.Core.Bool.{Bool, true, false, cond}
 use mathlib.Core.List.{List, []}
-use mathlib.Core.Option.{Option, none, some}
-use Prim.Native.Nat.{ℕ, zero, suc, _+_, _*_, _^_, _≤_, _<_}
+use mathlib.Core.Logic.{inl, inr}
+use Prim.Native.Nat.{ℕ, zero, suc, _^_, _≤_, _<_}
 use native.Mathlib.Omega.{arith}
 use lib.Dec.{leb, ltb}
 use lib.ListN.{length, getD}
-use Rattle.words.specs.Refusal.{first, unless, firstOf, LENGTH, WIDE-WORD, TOO-FEW-SHARES}
-use Rattle.codewords.specs.Codeword.{Polynomial, errorSet, codeword}
-use Rattle.codewords.specs.Opening.{Opening, declines, opens, faultOf, unlessFault, fromCodeword, answerTo}
+use Rattle.words.specs.Refusal.{unless, LENGTH}
+use Rattle.words.proofs.Refusal.{first-holds, unless-holds}
+use Rattle.codewords.specs.Codeword.{errorSet}
+use Rattle.codewords.specs.Opening.{Opening, declines, opens, faultOf, JobState}
 use Rattle.codewords.proofs.Value.{free-element}
 use Rattle.records.specs.Layout.{bodyAt}
 use Rattle.records.specs.Num.{Bytes}
 use Rattle.records.proofs.Num.{leAt-lt}
-use Rattle.bundle.specs.Bundle.{numOf, headingFault, jobFaultAt, jobFault, fileFaultAt, faultOfFile, filesFault, bundleFault}
-use Rattle.bundle.specs.Bundle.{jobAt, bundleHeading, paramsOf, allowanceOf}
+use Rattle.bundle.specs.Bundle.{numOf, bundleFault, jobAt, bundleHeading, paramsOf}
 use Rattle.bundle.proofs.Bundles.{bundle-ok, bundle-ranges}
-use Rattle.archive.specs.Archive.{sharesAt, placeInWidth, placeOpening}
+use Rattle.archive.specs.Archive.{sharesAt, placeOpening}
+use Rattle.archive.proofs.Ahead.{bundle-holds}
+use Rattle.archive.proofs.Opens.{place-states}
 use Rattle.text.specs.Text.{lineRoom}
 use Rattle.text.proofs.Lines.{open-length, declined-length, refused-length}
 use Rattle.listing.specs.Listing.{lineBy, lineOf, mostInput, inputFault}
@@ -28,64 +30,20 @@ use Rattle.listing.proofs.Lines.{place-poly}
 
 -- ---- no refusal is above 9
 
-first-le : (a b : ℕ) → a ≤ 9 → b ≤ 9 → first a b ≤ 9
-unfolding first
-first-le zero b h l = l
-first-le (suc a) b h l = h
-
-unless-le : (b : Bool) (c : ℕ) → c ≤ 9 → unless b c ≤ 9
-unfolding unless
-unless-le true c h = omega arith
-unless-le false c h = h
-
-firstOf-le : (f : ℕ → ℕ) (n : ℕ) → ((i : ℕ) → f i ≤ 9) → firstOf f n ≤ 9
-unfolding firstOf
-firstOf-le f zero h = omega arith
-firstOf-le f (suc n) h = first-le (firstOf f n) (f n) (firstOf-le f n h) (h n)
-
-job-le : (bs : List ℕ) (len base prev p at : ℕ) → jobFaultAt bs len base prev p at ≤ 9
-unfolding jobFaultAt
-job-le bs len base prev p at = first-le _ _ (unless-le _ _ (omega arith)) (unless-le _ _ (omega arith))
-
-heading-le : (bs : List ℕ) (base prev at : ℕ) → headingFault bs base prev at ≤ 9
-unfolding headingFault
-heading-le bs base prev at =
-    first-le _ _ (unless-le _ _ (omega arith))
-    (first-le _ _ (unless-le _ _ (omega arith)) (first-le _ _ (unless-le _ _ (omega arith)) (unless-le _ _ (omega arith))))
-
-file-le : (bs : List ℕ) (base prev at : ℕ) → fileFaultAt bs base prev at ≤ 9
-unfolding fileFaultAt jobFault
-file-le bs base prev at = first-le _ _ (heading-le bs base prev at) (firstOf-le _ _ (λ i. job-le bs _ _ _ i _))
-
-bundle-le : (bs : List ℕ) → bundleFault bs ≤ 9
-unfolding bundleFault filesFault faultOfFile
-bundle-le bs =
-    first-le _ _ (unless-le _ _ (omega arith))
-    (first-le _ _ (unless-le _ _ (omega arith)) (firstOf-le _ _ (λ i. at (ltb _ (length bs)) _ (file-le bs _ _ _))))
-  where
-    at : (b : Bool) (c : ℕ) → c ≤ 9 → cond b c 0 ≤ 9
-    at true c h = h
-    at false c h = omega arith
-
 input-le : (bs : List ℕ) → inputFault bs ≤ 9
 unfolding inputFault
-input-le bs = first-le (unless (leb (length bs) mostInput) LENGTH) (bundleFault bs) (unless-le _ LENGTH (omega arith)) (bundle-le bs)
+input-le bs =
+    first-holds (λ c. c ≤ 9) (unless (leb (length bs) mostInput) LENGTH) (bundleFault bs)
+    (unless-holds (λ c. c ≤ 9) (omega arith) _ LENGTH (omega arith))
+    (bundle-holds (λ c. c ≤ 9) (omega arith) (omega arith) (omega arith) (omega arith) (omega arith) bs)
 
 place-le : (bs : List ℕ) (p : ℕ) → faultOf (placeOpening bs p) ≤ 9
-unfolding placeOpening answerTo
-place-le bs p =
-    past (unless (placeInWidth bs p) WIDE-WORD) _ (unless-le (placeInWidth bs p) WIDE-WORD (omega arith))
-    (at (leb (paramsOf bs .t + 1 + 2 * allowanceOf bs) (length (sharesAt bs p)))
-    (codeword (paramsOf bs .k) (paramsOf bs .d) (paramsOf bs .t) (allowanceOf bs) (sharesAt bs p)))
+place-le bs p = go (place-states bs p)
   where
-    past : (c : ℕ) (o : Opening) → c ≤ 9 → faultOf o ≤ 9 → faultOf (unlessFault c o) ≤ 9
-    past zero o h l = l
-    past (suc c) o h l = h
-
-    at : (b : Bool) (o : Option Polynomial) → faultOf (cond b (fromCodeword o) (declines TOO-FEW-SHARES)) ≤ 9
-    at true none = omega arith
-    at true (some q) = omega arith
-    at false o = omega arith
+    go : JobState (placeOpening bs p) → faultOf (placeOpening bs p) ≤ 9
+    go (inl x) = rw (x .1) (omega arith)
+    go (inr (inl x)) = rw x (omega arith)
+    go (inr (inr x)) = rw x (omega arith)
 
 -- ---- the pieces
 

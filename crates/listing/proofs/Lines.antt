@@ -6,18 +6,17 @@ use mathlib.Core.List.{List, [], map}
 use Prim.Native.Nat.{ℕ, zero, suc, _≤_}
 use native.Mathlib.Omega.{arith}
 use lib.ListN.{length, take, getD}
-use Rattle.words.specs.Refusal.{unless, WIDE-WORD}
 use Rattle.words.specs.Signed.{signedOf}
 use Rattle.words.specs.Word.{allInWidth}
 use Rattle.polynomial.specs.Rows.{Rows, Shaped, coefs}
 use Rattle.codewords.specs.Codeword.{Polynomial}
-use Rattle.codewords.specs.Opening.{Opening, opens, wrongOf, openingIn}
+use Rattle.codewords.specs.Opening.{opens, wrongOf, openingIn}
 use Rattle.codewords.specs.WellFormed.{IsPoly}
-use Rattle.codewords.proofs.Opening.{handed, answer-poly, unless-opens}
+use Rattle.codewords.proofs.Opening.{handed, answer-poly}
 use Rattle.codewords.proofs.Value.{free-element}
 use Rattle.records.specs.declared.Heading.{Heading}
 use Rattle.bundle.specs.Bundle.{numOf, jobAt, paramsOf, allowanceOf, bundleHeading}
-use Rattle.archive.specs.Archive.{sharesAt, placeInWidth, placeOpening}
+use Rattle.archive.specs.Archive.{sharesAt, placeOpening}
 use Rattle.text.specs.Text.{written, lineRoom, openLine, declinedLine, readings}
 use Rattle.text.proofs.Written.{Wrote, written-none}
 use Rattle.listing.specs.Listing.{lineBy, lineOf}
@@ -25,8 +24,7 @@ use Rattle.listing.specs.Listing.{lineBy, lineOf}
 -- the job of an opened place is an element: d words, in width
 pub place-poly : (bs : List ℕ) (p : ℕ) (q : Polynomial) → placeOpening bs p ≡ opens q → IsPoly (paramsOf bs .k) (paramsOf bs .d) (paramsOf bs .t) q
 unfolding placeOpening
-place-poly bs p q g =
-    answer-poly (paramsOf bs) (allowanceOf bs) (sharesAt bs p) q (unless-opens (unless (placeInWidth bs p) WIDE-WORD) _ q g)
+place-poly bs p q = answer-poly (paramsOf bs) (allowanceOf bs) (sharesAt bs p) q
 
 -- ---- the line of a place of an accepted bundle, by its first heading, the job's number and the opening's parts
 

@@ -14,8 +14,8 @@ use Rattle.fetch.specs.Fetch.{placeFault}
 use Rattle.archive.specs.Archive.{sharesAt, placeOpening}
 use Rattle.text.specs.Text.{lineRoom, headLine, refusedLine, openLine, declinedLine}
 
--- "Each job has a line: job number; `open` or the number 3, 5 or 6; wrong holders [..]; the signed words": the line of a job by its shares and
--- what they open to
+-- "Each job has a line: job number; `open` or the number 3, 5 or 6; wrong holders [..]; the signed words", and paper 02, K1: "Opening one job no longer
+-- gives 3". The line of a job by its shares and what they open to
 abbrev pub lineBy : Params → List Share → ℕ → Opening → List ℕ
 lineBy p ss number (declines c) = declinedLine number c
 lineBy p ss number (opens q) = openLine number (errorSet (p .k) (p .d) q ss) (map (signedOf (p .k)) (getD q 0 []))

@@ -2,7 +2,6 @@
 -- jobs. Where the totals of up to e holders are changed, exactly these holders are named (`own-totals-open`), and where the files have what was
 -- dealt, nobody is (`own-dealt-totals-open`). Assumes nothing.
 use mathlib.Core.Path.{_≡_, refl, sym, ap, ap₂, subst, _∙_}
-use mathlib.Core.Bool.{true}
 use mathlib.Core.List.{List, [], _∷_}
 use Prim.Native.Nat.{ℕ, suc, _+_, _-_, _*_, _≤_, _<_}
 use native.Mathlib.Nat.{mul-le-mul-right}
@@ -13,9 +12,7 @@ use lib.Seq.{take-at, drop-at}
 use Rattle.algebra.specs.Shares.{All}
 use Rattle.algebra.proofs.Shares.{all-map, all-map₂, all-at}
 use Rattle.words.specs.declared.Params.{Params}
-use Rattle.words.specs.Word.{allInWidth}
 use Rattle.words.proofs.InRange.{InRange, range-ok}
-use Rattle.words.proofs.Tests.{and-both}
 use Rattle.galois.specs.Element.{Element, point}
 use Rattle.codewords.specs.Codeword.{Share, value, errorSet}
 use Rattle.codewords.specs.Opening.{opens, secretInto, wrongInto}
@@ -28,17 +25,16 @@ use Rattle.sharing.proofs.Opens.{lent-decides}
 use Rattle.fetch.specs.Fetch.{fileOf}
 use Rattle.fetch.proofs.Fetch.{holder-file}
 use Rattle.totals.specs.Total.{sumTo, runTotal, totalWords}
-use Rattle.totals.proofs.Sums.{sum-length, sum-width}
+use Rattle.totals.proofs.Sums.{sum-length}
 use Rattle.totals.proofs.Totals.{TotalClear, total-clear, total-words}
-use Rattle.totals.proofs.Words.{width-append}
 use Rattle.writer.proofs.Calls.{job-words}
-use Rattle.promises.specs.Written.{Deals, shareOf, sharesOf, Archive, wordsIn, FileWritten, HoldsShares, changedOver}
+use Rattle.promises.specs.Written.{Deals, shareOf, sharesOf, Archive, wordsIn, Stored, HoldsShares, changedOver}
 use Rattle.promises.specs.Written.{fromPlace, sumSecret, sumDealing}
 use Rattle.promises.specs.Totals.{totalsOf, alone, ownBundle, OwnTotal}
 use Rattle.promises.proofs.Changed.{sharesWith, errors-changed, changed-same, none-changed, no-ones}
 use Rattle.promises.proofs.Jobs.{sum-poly, sum-free, sum-value}
 use Rattle.promises.proofs.Opened.{deals-at, sums-share, jobs-count}
-use Rattle.promises.proofs.Written.{no-fault, count-is, jobs-is, holder-is, holder-good, words-count, range, total-is}
+use Rattle.promises.proofs.Written.{Reads, reads, count-is, jobs-is, holder-is, total-is, range, holders-good, written-stored}
 
 module _ (a : Archive) (x y : ℕ) where
   abbrev p : Params
@@ -56,29 +52,33 @@ module _ (a : Archive) (x y : ℕ) where
     clear : TotalClear bs h x y (length old)
     clear = total-clear bs h x y (length old) (t .no-fault)
 
+    stored : Stored (alone a h)
+    stored = written-stored (alone a h) (t .written)
+
+    r : Reads (alone a h)
+    r = reads (alone a h) stored
+
+    holder-good : (1 ≤ h) × (h ≤ p .n)
+    holder-good = holders-good (alone a h) stored .0
+
     -- places of the run are places of the file
     places : x + (y - x) ≤ length (a .numbers)
-    places = omega (arith, clear .low, clear .high, jobs-is (alone a h) (t .written))
+    places = omega (arith, clear .low, clear .high, jobs-is (alone a h) r)
 
     first-file : fileOf bs h ≡ 0
     first-file =
         let one : 0 < 1 = omega arith in
-        let e = holder-is (alone a h) (t .written) 0 one in
-        ap (fileOf bs) (sym e)
-        ∙ holder-file bs (no-fault (alone a h) (t .written)) 0 (omega (arith, count-is (alone a h) (t .written)))
+        ap (fileOf bs) (sym (holder-is (alone a h) r 0 one)) ∙ holder-file bs (r .no-fault) 0 (omega (arith, count-is (alone a h) r))
 
     own-total : totalWords bs h x y old ≡ sumIn h
     own-total =
         total-words bs h x y old (t .no-fault)
         ∙ ap (λ (f : ℕ). runTotal bs f x (y - x)) first-file
-        ∙ total-is (alone a h) (t .written) 0 x (y - x) (omega arith) places
-
-    file : FileWritten (alone a h) h
-    file = t .written .files .0
+        ∙ total-is (alone a h) r 0 x (y - x) (omega arith) places
 
     sum-long : length (sumIn h) ≡ p .d
     sum-long =
-        let c = words-count (alone a h) (t .written) h file in
+        let c = stored .well-formed .words-count .0 in
         sum-length (p .k) (p .d) (λ i. wordsIn a (x + i) h) (y - x)
         (λ i v.
         (let l : suc (x + i) ≤ length (a .numbers) = omega (arith, places) in
@@ -107,14 +107,6 @@ module _ (a : Archive) (x y : ℕ) where
         length-append (totalWords (ownBundle a h) h x y (old h)) (lot hs)
         ∙ ap₂ _+_ (ap length (own-total h (old h) (t .0)) ∙ sum-long h (old h) (t .0)) (lot-length hs (t .1)) ∙ omega arith
 
-    lot-width : (hs : List ℕ) → All (λ h. OwnTotal a x y (old h) h) hs → allInWidth (p .k) (lot hs) ≡ true
-    unfolding totalsOf allInWidth
-    lot-width [] t = refl
-    lot-width (h ∷ hs) t =
-        width-append (p .k) (totalWords (ownBundle a h) h x y (old h)) (lot hs)
-        ∙ and-both _ _ (ap (allInWidth (p .k)) (own-total h (old h) (t .0)) ∙ sum-width (p .k) (p .d) (λ i. wordsIn a (x + i) h) (y - x))
-        (lot-width hs (t .1))
-
     module _ (present : Present (a .params) (a .holders) (a .allowance)) (totals : All (λ h. OwnTotal a x y (old h) h) (a .holders)) where
       abbrev hs : List ℕ
       hs = a .holders
@@ -123,10 +115,10 @@ module _ (a : Archive) (x y : ℕ) where
       one = all-at (λ h. OwnTotal a x y (old h) h) hs 0 0 totals (omega (arith, present .enough))
 
       ranges : InRange p
-      ranges = range (alone a (getD hs 0 0)) (one .written)
+      ranges = range (alone a (getD hs 0 0)) (stored (getD hs 0 0) (old (getD hs 0 0)) one)
 
       good : All (λ h. (1 ≤ h) × (h ≤ p .n)) hs
-      good = all-map (λ h (t : OwnTotal a x y (old h) h). holder-good (alone a h) (t .written) h (t .written .files .0)) hs totals
+      good = all-map (λ h t. holder-good h (old h) t) hs totals
 
       pub own-totals-open : (j : ℕ → Job) → ((i : ℕ) → i < y - x → Deals (a .params) (j i)) → ones (changedOver a j x (y - x)) ≤ a .allowance →
           OpensTo (a .params) (a .holders) (totalsOf (ownBundle a) x y old (a .holders)) (a .allowance)
@@ -144,7 +136,6 @@ module _ (a : Archive) (x y : ℕ) where
             output = refl;
             wrong-output = refl;
             rising = present .rising;
-            width = lot-width hs totals;
           } in
           let holders = clear-holders p hs (lot hs) (p .d) 1 lc in
           let set : errorSet (p .k) (p .d) q ss ≡ changedOver a j x n =
@@ -175,11 +166,12 @@ module _ (a : Archive) (x y : ℕ) where
           none-changed (λ h. sumTo (p .k) (p .d) (λ i. shareOf p (j i) h) n) sumIn hs
           (all-map₂ (λ h (t : OwnTotal a x y (old h) h) (e : a .words h ≡ sharesOf p js h).
           (let o = alone a h in
-          let w = t .written in
-          sums-share o w js deals (jobs-count o w js deals (e, tt)) x n (places h (old h) t) h (holder-good o w h (w .files .0)) e))
+          let s = stored h (old h) t in
+          sums-share o s js deals (jobs-count o s js deals (e, tt)) x n (places h (old h) t) h (holder-good h (old h) t) e))
           hs totals holds) in
           let u₀ = places h₀ (old h₀) one in
-          let c₀ = jobs-count (alone a h₀) (one .written) js deals (e₀, tt) in
+          let s₀ = stored h₀ (old h₀) one in
+          let c₀ = jobs-count (alone a h₀) s₀ js deals (e₀, tt) in
           let q = sumDealing p j n in
           subst (OpensTo p hs (lot hs) (a .allowance) q (sumSecret p j n)) none
-          (own-totals-open j (λ i v. deals-at (alone a h₀) (one .written) js deals c₀ (x + i) (omega arith)) (rw (none, no-ones) (omega arith)))
+          (own-totals-open j (λ i v. deals-at (alone a h₀) s₀ js deals c₀ (x + i) (omega arith)) (rw (none, no-ones) (omega arith)))

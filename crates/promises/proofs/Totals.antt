@@ -5,36 +5,31 @@ use mathlib.Core.Bool.{true}
 use mathlib.Core.List.{List, _∷_}
 use Prim.Native.Nat.{ℕ, zero, suc, _+_, _-_, _*_, _≤_, _<_}
 use native.Mathlib.Omega.{arith}
-use lib.Dec.{leb, ltb}
 use lib.ListN.{length, length-append}
 use lib.Seq.{take-at, drop-at}
-use borrow.Author.Tests.{le-leb, lt-ltb}
 use Rattle.words.specs.Faults.{paramsFault, lengthFault}
 use Rattle.words.specs.Refusal.{first, unless, HOLDER, WIDE-WORD}
-use Rattle.words.specs.Word.{allInWidth}
-use Rattle.words.proofs.Faults.{clear-params, clear-length, clear-width}
-use Rattle.words.proofs.Refusal.{first-none, unless-yes, pass}
-use Rattle.words.proofs.Tests.{and-both}
+use Rattle.words.proofs.Faults.{clear-params, clear-length}
+use Rattle.words.proofs.Refusal.{first-none, unless-yes}
 use Rattle.galois.specs.Element.{Element}
 use Rattle.codewords.specs.Codeword.{Share, Polynomial}
 use Rattle.codewords.specs.Opening.{Opening, secretInto, wrongInto, unlessFault, answerTo}
 use Rattle.codewords.proofs.Opening.{unless-none}
 use Rattle.sharing.specs.Dealt.{OpensTo}
 use Rattle.sharing.specs.Opening.{lent, risingTo, lentFault, opening}
-use Rattle.records.specs.Layout.{orderSize}
 use Rattle.bundle.specs.Bundle.{bundleFault, bundleHeading, paramsOf, allowanceOf, filesOf, holderOf}
-use Rattle.bundle.proofs.Bundles.{bundle-ok, bundle-ranges, holders-rise}
+use Rattle.bundle.proofs.Bundles.{bundle-ok, bundle-ranges}
 use Rattle.fetch.specs.Fetch.{runFault}
 use Rattle.fetch.proofs.Fetch.{holder-file, run-none}
 use Rattle.totals.specs.Total.{runTotal, runInWidth, totalFault, totalWords}
 use Rattle.totals.specs.Values.{valuesFrom}
 use Rattle.totals.proofs.Totals.{TotalClear, total-clear, total-words}
 use Rattle.totals.proofs.Values.{values-count, every-all}
-use Rattle.totals.proofs.Words.{width-append}
 use Rattle.archive.specs.Archive.{shareBy, sharesOver, filesInWidth, runOpening, openingFault, openRun}
 use Rattle.archive.specs.Dealt.{RunOpensTo}
-use Rattle.archive.proofs.Shares.{holder-range, total-element}
+use Rattle.archive.proofs.Shares.{total-element}
 use Rattle.promises.specs.Totals.{holdersOf, totalsOf}
+use Rattle.promises.proofs.Written.{accepted-rise}
 
 module _ (bs : List ℕ) (z : bundleFault bs ≡ 0) (a b : ℕ) (old : ℕ → List ℕ)
     (taken : (f : ℕ) → f < filesOf bs → totalFault bs (holderOf bs f) a b (length (old (holderOf bs f))) ≡ 0) where
@@ -54,7 +49,7 @@ module _ (bs : List ℕ) (z : bundleFault bs ≡ 0) (a b : ℕ) (old : ℕ → L
   one : (f : ℕ) → f < filesOf bs → totalWords bs (holderOf bs f) a b (old (holderOf bs f)) ≡ own f
   one f l = total-words bs (holderOf bs f) a b (old (holderOf bs f)) (taken f l) ∙ ap own (holder-file bs z f l)
 
-  -- of the n files from i on: their shares, how many words, and that these are in width
+  -- of the n files from i on: their shares, and how many words
   abbrev lot : ℕ → ℕ → List ℕ
   lot i n = totalsOf (λ h. bs) a b old (valuesFrom (holderOf bs) i n)
 
@@ -78,26 +73,6 @@ module _ (bs : List ℕ) (z : bundleFault bs ≡ 0) (a b : ℕ) (old : ℕ → L
       ∙ ap₂ _+_ (ap length (one i (omega arith)) ∙ total-element bs i a (b - a) .0) (lot-length (suc i) n (omega arith))
       ∙ omega arith
 
-  lot-width : (i n : ℕ) → i + n ≤ filesOf bs → allInWidth k (lot i n) ≡ true
-  unfolding valuesFrom totalsOf allInWidth
-  lot-width i zero h = refl
-  lot-width i (suc n) h =
-      let t = totalWords bs (holderOf bs i) a b (old (holderOf bs i)) in
-      width-append k t (lot (suc i) n)
-      ∙ and-both _ _ (ap (allInWidth k) (one i (omega arith)) ∙ total-element bs i a (b - a) .1) (lot-width (suc i) n (omega arith))
-
-  -- holders rise from 1 to n
-  lot-rises : (prev i n : ℕ) → i + n ≤ filesOf bs → ((f : ℕ) → i ≤ f → f < i + n → prev < holderOf bs f) →
-      risingTo (paramsOf bs .n) prev (valuesFrom (holderOf bs) i n) ≡ true
-  unfolding valuesFrom risingTo
-  lot-rises prev i zero h g = refl
-  lot-rises prev i (suc n) h g =
-      let x = holderOf bs i in
-      and-both (ltb prev x) _ (lt-ltb prev x (g i (omega arith) (omega arith)))
-      (and-both (leb x (paramsOf bs .n)) _ (le-leb x (paramsOf bs .n) (holder-range bs z i (omega arith) .1))
-      (lot-rises x (suc i) n (omega arith)
-      (λ f u v. holders-rise bs orderSize (bundle-ok bs z .files) i f (omega arith) (omega arith))))
-
   abbrev hs : List ℕ
   hs = holdersOf bs
 
@@ -119,8 +94,7 @@ module _ (bs : List ℕ) (z : bundleFault bs ≡ 0) (a b : ℕ) (old : ℕ → L
       ∙ first-none (lengthFault (length hs * d) (length ws)) _
       (clear-length (length hs * d) (length ws) (lot-length 0 m (omega arith) ∙ ap (λ (x : ℕ). x * d) (sym c)))
       ∙ ap (λ (x : ℕ). first (lengthFault d n) (first (lengthFault 1 w) x))
-      (pass (risingTo (paramsOf bs .n) 0 hs) HOLDER _ (lot-rises 0 0 m (omega arith) (λ f u v. holder-range bs z f (omega arith) .0))
-      ∙ clear-width k ws (lot-width 0 m (omega arith)))
+      (unless-yes (risingTo (paramsOf bs .n) 0 hs) HOLDER (accepted-rise bs z))
       ∙ ap (first (lengthFault d n)) (last (lengthFault 1 w))
 
   run-outputs : (n w : ℕ) → openingFault bs n w (runFault (bundleHeading bs) a b) ≡ first (lengthFault d n) (lengthFault 1 w)

@@ -1,8 +1,8 @@
--- What the theorems over the calls speak of: jobs that are dealt, files that are written of their shares, or of other words, and the bundle that
--- is written of these files. What is asked of each step is that its call returned 0. Assumes nothing.
+-- What the theorems over the calls speak of: jobs that are dealt, files that are written of their shares, or of other words, the bundle that is
+-- written of these files, and words that the files have later. What is asked of each step is that its call returned 0. Assumes nothing.
 use mathlib.Core.Path.{_≡_}
 use Prim.Native.Nat.{ℕ, _+_, _-_, _*_, _^_, _≤_, _<_}
-use mathlib.Core.Bool.{true, not}
+use mathlib.Core.Bool.{Bool, true, not}
 use mathlib.Core.List.{List, [], _∷_, _++_}
 use lib.ListN.{length, getD, take, drop}
 use Rattle.algebra.specs.Shares.{All}
@@ -20,6 +20,7 @@ use Rattle.writer.specs.Bytes.{filesBytes, orderBytes}
 use Rattle.writer.specs.Fits.{Words64}
 use Rattle.writer.specs.Write.{fileFor, rising, fileWriteFault, bundleWriteFault}
 use Rattle.totals.specs.Total.{sumTo}
+use Rattle.totals.specs.Values.{every}
 use Rattle.archive.specs.Dealt.{sumPolys}
 
 -- ---- jobs
@@ -99,9 +100,9 @@ pub record Written (a : Archive) : Type 0 where
   pub size : ℕ
   pub bundle : bundleWriteFault (a .allowance) (writtenFiles a) size ≡ 0
 
--- The archive is in the ranges of paper 01: its parameters, J "0 to 1,000", "job numbers strictly rising", "one file or more, holders strictly
--- rising", and in each file d words for each job, in width.
-pub record InRanges (a : Archive) : Type 0 where
+-- The archive is in the ranges of paper 01 but for its words: its parameters, J "0 to 1,000", "job numbers strictly rising", "one file or more,
+-- holders strictly rising", and in each file d words for each job.
+pub record WellFormed (a : Archive) : Type 0 where
   pub number-fits : a .number < 2 ^ 64
   pub numbers-fit : Words64 (a .numbers)
   pub params-ok : paramsOk (a .params) ≡ true
@@ -110,17 +111,48 @@ pub record InRanges (a : Archive) : Type 0 where
   pub some-holder : 1 ≤ length (a .holders)
   pub holders-rise : risingTo (a .params .n) 0 (a .holders) ≡ true
   pub words-count : All (λ h. length (a .words h) ≡ length (a .numbers) * a .params .d) (a .holders)
+
+-- the words are in width, as the file writer asks
+pub record InRanges (a : Archive) : Type 0 where
+  pub well-formed : WellFormed a
   pub words-width : All (λ h. allInWidth (a .params .k) (a .words h) ≡ true) (a .holders)
+
+-- the words are of 64 bits, wide ones too, as those that stand in files are
+pub record Stored (a : Archive) : Type 0 where
+  pub well-formed : WellFormed a
+  pub words-fit : All (λ h. Words64 (a .words h)) (a .holders)
 
 -- the files are t + 1 + 2e or more
 abbrev pub EnoughFiles : Archive → Type 0
 EnoughFiles a = a .params .t + 1 + 2 * a .allowance ≤ length (a .holders)
+
+-- no word is wide at the n places from x on, in any file
+abbrev pub inWidthOver : Archive → ℕ → ℕ → Bool
+inWidthOver a x n =
+    every (λ f. every (λ i. allInWidth (a .params .k) (wordsIn a (x + i) (getD (a .holders) f 0))) n) (length (a .holders))
 
 -- each holder's file has its shares of the jobs, and nothing else
 abbrev pub HoldsShares : Archive → List Job → Type 0
 HoldsShares a js = All (λ h. a .words h ≡ sharesOf (a .params) js h) (a .holders)
 
 -- ---- what is changed
+
+-- the archive with other words in its files: then `writtenBundle` is its bundle with these words, and otherwise as it was written
+abbrev pub withWords : Archive → (ℕ → List ℕ) → Archive
+withWords a ws =
+    record {
+      params = a .params;
+      number = a .number;
+      numbers = a .numbers;
+      holders = a .holders;
+      words = ws;
+      allowance = a .allowance;
+    }
+
+-- words that files may have later: as many as were written, and any of 64 bits
+pub record Changed (a : Archive) (ws : ℕ → List ℕ) : Type 0 where
+  pub words-count : All (λ h. length (ws h) ≡ length (a .words h)) (a .holders)
+  pub words-fit : All (λ h. Words64 (ws h)) (a .holders)
 
 -- the set of the holders whose words are not those that they should be, bit h - 1 for holder h
 unfoldable pub changedHolders : (ℕ → Element) → (ℕ → Element) → List ℕ → ℕ

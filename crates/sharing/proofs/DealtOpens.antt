@@ -1,8 +1,9 @@
 -- Demand 2 on the calls' own definitions. Dealt shares, at least t + 1 + 2e of them and of any holders, open to the dealing polynomial, and so to
 -- the job (`dealt-opens`); the sums of such shares of several jobs, share by share, to the sum of the polynomials, and so of the jobs
 -- (`total-opens`); multiplied by one element, to the polynomial, and so the job, times that element, which may be either factor
--- (`multiple-opens`, `multiple-opens-by`). Nobody is named wrong. The same holds where up to e of the shares were changed in any way: then exactly
--- the holders of the changed ones are named (`changed-opens`, `changed-total-opens`, `changed-multiple-opens`, `changed-multiple-opens-by`).
+-- (`multiple-opens`, `multiple-opens-by`). Nobody is named wrong. The same holds where up to e of the shares were changed in any way, to wide words
+-- too: then exactly the holders of the changed ones are named (`changed-opens`, `changed-total-opens`, `changed-multiple-opens`,
+-- `changed-multiple-opens-by`).
 -- Assumes nothing.
 use mathlib.Core.Path.{_≡_, refl, sym, _∙_, ap, ap₂, subst}
 use mathlib.Core.Bool.{true}
@@ -37,7 +38,7 @@ use Rattle.sharing.proofs.Elements.{elements-length}
 use Rattle.sharing.proofs.Faults.{deal-clear}
 use Rattle.sharing.proofs.Lent.{clear-holders, width-take, width-drop}
 use Rattle.sharing.proofs.Opens.{lent-decides}
-use Rattle.sharing.proofs.Values.{values-length, values-width, of-dealt, errors-changed, sum-values, changed-none}
+use Rattle.sharing.proofs.Values.{values-length, of-dealt, errors-changed, sum-values, changed-none}
 use Rattle.sharing.proofs.Values.{multiple-values, multiple-values-by}
 
 -- what is dealt is a polynomial of degree at most t
@@ -105,7 +106,7 @@ module _ (p : Params) (ok : paramsOk p ≡ true) (hs : List ℕ) where
     through-opens-changed ws c =
         let ss = lent (p .d) hs ws in
         let clear : LentClear p hs ws (p .d) 1 =
-        record { params = ok; words-length = c .sized; output = refl; wrong-output = refl; rising = present .rising; width = c .width } in
+        record { params = ok; words-length = c .sized; output = refl; wrong-output = refl; rising = present .rising } in
         let holders = clear-holders p hs ws (p .d) 1 clear in
         let same : errorSet (p .k) (p .d) q ss ≡ changedIn p hs vs ws =
         rw (g .values) (errors-changed (p .k) (p .d) (range .d-low) (range .d-high) q (rows g) hs ws) in
@@ -126,7 +127,6 @@ module _ (p : Params) (ok : paramsOk p ≡ true) (hs : List ℕ) where
         (through-opens-changed vs
         (record {
           sized = rw (g .values) (values-length (p .k) (p .d) (range .d-low) (range .d-high) q (rows g) hs);
-          width = rw (g .values) (values-width (p .k) (p .d) (range .d-low) (range .d-high) q (rows g) hs);
           few = rw (none, no-ones) (omega arith);
         }))
 

@@ -10,18 +10,19 @@ use lib.ListN.{length, take, drop, getD, length-drop}
 use lib.Seq.{drop-cons, length-take-le}
 use borrow.Author.Tests.{leb-true, ltb-true, le-leb, lt-leb, lt-ltb, le-ltb}
 use Rattle.words.specs.Faults.{paramsFault, lengthFault}
-use Rattle.words.specs.Refusal.{unless, HOLDER}
+use Rattle.words.specs.Refusal.{HOLDER}
 use Rattle.words.specs.Word.{inWidth, allInWidth}
 use Rattle.words.specs.declared.Params.{Params}
-use Rattle.words.proofs.Faults.{params-clear, clear-params, length-clear, clear-length, width-clear, clear-width}
+use Rattle.words.proofs.Faults.{params-clear, clear-params, length-clear, clear-length}
 use Rattle.words.proofs.InRange.{ok-range, range-ok}
-use Rattle.words.proofs.Refusal.{first-left, first-right, first-none, unless-held, pass}
+use Rattle.words.proofs.Refusal.{first-left, first-right, first-none, unless-held, unless-yes}
 use Rattle.words.proofs.Tests.{and-left, and-right, and-both, and-yes, and-no}
 use Rattle.algebra.specs.Shares.{All}
 use Rattle.algebra.proofs.Shares.{all-map}
 use Rattle.codewords.specs.Codeword.{Share}
 use Rattle.codewords.specs.WellFormed.{InWidth, Rising, Holders}
 use Rattle.codewords.proofs.Without.{rising-different}
+use Rattle.level.specs.Shares.{Sized}
 use Rattle.sharing.specs.Clear.{LentClear}
 use Rattle.sharing.specs.Opening.{lent, risingTo, lentFault}
 
@@ -100,6 +101,12 @@ width-drop k zero ws e = e
 width-drop k (suc n) [] e = refl
 width-drop k (suc n) (w ∷ ws) e = width-drop k n ws (and-right (inWidth k w) _ e)
 
+-- d words in each share, in width where all of them are
+pub lent-sized : (d : ℕ) (hs ws : List ℕ) → length ws ≡ length hs * d → Sized d (lent d hs ws)
+unfolding lent
+lent-sized d [] ws l = tt
+lent-sized d (h ∷ hs) ws l = (length-take-le d ws (omega arith), lent-sized d hs (drop d ws) (length-drop d ws ∙ omega arith))
+
 pub lent-width : (k d : ℕ) (hs ws : List ℕ) → length ws ≡ length hs * d → allInWidth k ws ≡ true → InWidth k d (lent d hs ws)
 unfolding lent
 lent-width k d [] ws l e = tt
@@ -115,14 +122,12 @@ lent-clear p hs ws n w e₁ =
     let e₂ = first-right (paramsFault p) _ e₁ in
     let e₃ = first-right (lengthFault (length hs * p .d) (length ws)) _ e₂ in
     let e₄ = first-right (lengthFault (p .d) n) _ e₃ in
-    let e₅ = first-right (lengthFault 1 w) _ e₄ in
     record {
       params = range-ok p (params-clear p (first-left (paramsFault p) _ e₁));
       words-length = length-clear (length hs * p .d) (length ws) (first-left (lengthFault (length hs * p .d) (length ws)) _ e₂);
       output = length-clear (p .d) n (first-left (lengthFault (p .d) n) _ e₃);
       wrong-output = length-clear 1 w (first-left (lengthFault 1 w) _ e₄);
-      rising = unless-held (risingTo (p .n) 0 hs) HOLDER (omega arith) (first-left (unless (risingTo (p .n) 0 hs) HOLDER) _ e₅);
-      width = width-clear (p .k) ws (first-right (unless (risingTo (p .n) 0 hs) HOLDER) _ e₅);
+      rising = unless-held (risingTo (p .n) 0 hs) HOLDER (omega arith) (first-right (lengthFault 1 w) _ e₄);
     }
 
 pub clear-lent : (p : Params) (hs ws : List ℕ) (n w : ℕ) → LentClear p hs ws n w → lentFault p hs ws n w ≡ 0
@@ -132,8 +137,7 @@ clear-lent p hs ws n w c =
     ∙ first-none (lengthFault (length hs * p .d) (length ws)) _ (clear-length (length hs * p .d) (length ws) (c .words-length))
     ∙ first-none (lengthFault (p .d) n) _ (clear-length (p .d) n (c .output))
     ∙ first-none (lengthFault 1 w) _ (clear-length 1 w (c .wrong-output))
-    ∙ pass (risingTo (p .n) 0 hs) HOLDER _ (c .rising)
-    ∙ clear-width (p .k) ws (c .width)
+    ∙ unless-yes (risingTo (p .n) 0 hs) HOLDER (c .rising)
 
 pub clear-holders : (p : Params) (hs ws : List ℕ) (n w : ℕ) → LentClear p hs ws n w → Holders (p .d) (lent (p .d) hs ws)
 clear-holders p hs ws n w c = lent-holders (p .d) (p .n) hs ws (ok-range p (c .params) .n-high) (c .rising)

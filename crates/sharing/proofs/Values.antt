@@ -9,8 +9,7 @@ use lib.Dec.{leb, ltb}
 use lib.ListN.{length, take, drop, length-append}
 use lib.Seq.{take-at, drop-at}
 use borrow.Author.Tests.{leb-true, ltb-true}
-use Rattle.words.specs.Word.{inWidth, allInWidth}
-use Rattle.words.proofs.Tests.{and-left, and-right, and-both}
+use Rattle.words.proofs.Tests.{and-left, and-right}
 use Rattle.galois.specs.Element.{Element, sum, product, lower, point, same}
 use Rattle.galois.proofs.Elements.{same-refl}
 use Rattle.galois.proofs.Lists.{product-comm}
@@ -18,7 +17,7 @@ use Rattle.galois.proofs.Table.{length-lower}
 use Rattle.galois.proofs.Points.{length-point}
 use Rattle.polynomial.specs.Polynomial.{Polynomial, value}
 use Rattle.codewords.specs.Codeword.{Share, when, differs, errorSet}
-use Rattle.codewords.proofs.Value.{Rows, value-element}
+use Rattle.codewords.proofs.Value.{Rows}
 use Rattle.codewords.specs.Linear.{sums, multiple}
 use Rattle.codewords.proofs.Linear.{value-sum, value-multiple}
 use Rattle.sharing.specs.Dealing.{dealtFrom}
@@ -26,11 +25,6 @@ use Rattle.sharing.specs.Dealt.{valuesAt}
 use Rattle.sharing.specs.Lists.{ofHolders, onEach, onPairs, changedSet}
 use Rattle.sharing.specs.Opening.{lent, risingTo}
 use Rattle.sharing.proofs.Dealt.{share-length, share-at}
-
-width-append : (k : ℕ) (vs ws : List ℕ) → allInWidth k vs ≡ true → allInWidth k ws ≡ true → allInWidth k (vs ++ ws) ≡ true
-unfolding allInWidth
-width-append k [] ws e f = f
-width-append k (v ∷ vs) ws e f = and-both (inWidth k v) _ (and-left (inWidth k v) _ e) (width-append k vs ws (and-right (inWidth k v) _ e) f)
 
 module _ (k d : ℕ) (dl : 2 ≤ d) (dh : d ≤ 6) where
   module _ (q : Polynomial) (rows : Rows d q) where
@@ -41,13 +35,6 @@ module _ (k d : ℕ) (dl : 2 ≤ d) (dh : d ≤ 6) where
     unfolding valuesAt
     values-length [] = sym (zero-mul d)
     values-length (h ∷ hs) = length-append (value k d q (point d h)) (valuesAt k d q hs) ∙ omega (arith, long h, values-length hs)
-
-    pub values-width : (hs : List ℕ) → allInWidth k (valuesAt k d q hs) ≡ true
-    unfolding valuesAt allInWidth
-    values-width [] = refl
-    values-width (h ∷ hs) =
-        width-append k (value k d q (point d h)) (valuesAt k d q hs) (value-element d dl dh k q rows (record { holder = h; words = [] }) .1)
-        (values-width hs)
 
     -- the first words are the first holder's
     first : (h : ℕ) (hs : List ℕ) → take d (value k d q (point d h) ++ valuesAt k d q hs) ≡ value k d q (point d h)

@@ -6,19 +6,17 @@ use mathlib.Core.Bool.{true}
 use mathlib.Core.List.{List}
 use lib.ListN.{length}
 use Rattle.words.specs.Params.{paramsOk}
-use Rattle.words.specs.Word.{allInWidth}
 use Rattle.words.specs.declared.Params.{Params}
-use Rattle.codewords.specs.Demand.{Outputs, Returned, Tells}
+use Rattle.codewords.specs.Demand.{Outputs, Returned, Tells, TellsWide}
 use Rattle.sharing.specs.Opening.{lent, risingTo, opening}
 
--- none of 1, 2, 4, 3 applies to the shares ws of the holders hs, lent with outputs of n and of w words
+-- none of 1, 2, 4 applies to the shares ws of the holders hs, lent with outputs of n and of w words
 pub record LentClear (p : Params) (hs ws : List ℕ) (n w : ℕ) : Type 0 where
   pub params : paramsOk p ≡ true
   pub words-length : length ws ≡ length hs * p .d
   pub output : n ≡ p .d
   pub wrong-output : w ≡ 1
   pub rising : risingTo (p .n) 0 hs ≡ true
-  pub width : allInWidth (p .k) ws ≡ true
 
 -- the contract of `open_shares`: lent these shares, the error bound e and the outputs old, it returned the number r and left the outputs new
 abbrev pub SharesReturned : Params → List ℕ → List ℕ → ℕ → Outputs → ℕ → Outputs → Type 0
@@ -27,3 +25,7 @@ SharesReturned p hs ws e old = Returned p (lent (p .d) hs ws) (opening p hs ws e
 -- what that tells: "Where shares are lent, m counts the lent ones and e is lent with them."
 abbrev pub SharesTell : Params → List ℕ → List ℕ → ℕ → Outputs → ℕ → Outputs → Type 0
 SharesTell p hs ws e old = Tells p e (lent (p .d) hs ws) (LentClear p hs ws (length (old .job)) (length (old .wrong))) old
+
+-- and of lent shares with a wide word
+abbrev pub SharesTellWide : Params → List ℕ → List ℕ → ℕ → Outputs → ℕ → Outputs → Type 0
+SharesTellWide p hs ws e old = TellsWide p e (lent (p .d) hs ws) (LentClear p hs ws (length (old .job)) (length (old .wrong)))

@@ -6,7 +6,6 @@ use mathlib.Core.Bool.{true}
 use mathlib.Core.List.{List, [], _∷_, _++_}
 use lib.Count.{ones}
 use lib.ListN.{length}
-use Rattle.words.specs.Word.{allInWidth}
 use Rattle.words.specs.declared.Params.{Params}
 use Rattle.galois.specs.Element.{Element, sum, product, lower, point}
 use Rattle.polynomial.specs.Polynomial.{Polynomial, value}
@@ -76,10 +75,9 @@ pub record Present (p : Params) (hs : List ℕ) (e : ℕ) : Type 0 where
 abbrev pub changedIn : Params → List ℕ → List ℕ → List ℕ → ℕ
 changedIn p hs vs ws = changedSet (lent (p .d) hs vs) (lent (p .d) hs ws)
 
--- the shares ws in place of vs: as many words, in width, and at most e shares changed
+-- the shares ws in place of vs: as many words, whatever they are, and at most e shares changed
 pub record Changed (p : Params) (hs vs ws : List ℕ) (e : ℕ) : Type 0 where
   pub sized : length ws ≡ length hs * p .d
-  pub width : allInWidth (p .k) ws ≡ true
   pub few : ones (changedIn p hs vs ws) ≤ e
 
 -- the shares ws, lent with outputs of d words and of one, open to the polynomial q: the outputs then hold the job a and the set w

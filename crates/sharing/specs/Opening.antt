@@ -4,7 +4,7 @@ use mathlib.Core.Bool.{Bool, true, _&&_}
 use mathlib.Core.List.{List, [], _∷_}
 use lib.Dec.{leb, ltb}
 use lib.ListN.{length, take, drop}
-use Rattle.words.specs.Faults.{paramsFault, lengthFault, widthFault}
+use Rattle.words.specs.Faults.{paramsFault, lengthFault}
 use Rattle.words.specs.Refusal.{first, unless, HOLDER}
 use Rattle.words.specs.declared.Params.{Params}
 use Rattle.codewords.specs.Codeword.{Share}
@@ -20,14 +20,15 @@ unfoldable pub risingTo : ℕ → ℕ → List ℕ → Bool
 risingTo n prev [] = true
 risingTo n prev (h ∷ hs) = ltb prev h && (leb h n && risingTo n h hs)
 
--- the refusals ahead of 5 and 6, for outputs of n and of w words: the job's and the wrong holders'; "Order outside files: 1, 2, 4, [..] 3"
+-- the refusals ahead of 5 and 6, for outputs of n and of w words: the job's and the wrong holders'; "Order outside files: 1, 2, 4", and paper 02, K1:
+-- "Opening one job no longer gives 3"
 unfoldable pub lentFault : Params → List ℕ → List ℕ → ℕ → ℕ → ℕ
-unfolding first unless paramsFault lengthFault widthFault risingTo
+unfolding first unless paramsFault lengthFault risingTo
 lentFault p hs ws n w =
     first (paramsFault p)
     (first (lengthFault (length hs * p .d) (length ws))
     (first (lengthFault (p .d) n)
-    (first (lengthFault 1 w) (first (unless (risingTo (p .n) 0 hs) HOLDER) (widthFault (p .k) ws)))))
+    (first (lengthFault 1 w) (unless (risingTo (p .n) 0 hs) HOLDER))))
 
 -- the shares ws of the holders hs, with the error bound e, into outputs of n and of w words
 unfoldable pub opening : Params → List ℕ → List ℕ → ℕ → ℕ → ℕ → Opening

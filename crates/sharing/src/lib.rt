@@ -151,8 +151,7 @@ fn lent_fault(p: words::Params, holders: &[u64], shares: &[u64], n: usize, w: us
     if lengths != 0 {
         return lengths;
     }
-    let named = words::unless(rising(p.n, holders), words::HOLDER);
-    words::first(named, words::width_fault(p.k, shares))
+    words::unless(rising(p.n, holders), words::HOLDER)
 }
 
 // Lent holders, in an array.
@@ -183,8 +182,8 @@ fn load_shares(d: usize, m: usize, shares: &[u64]) -> [[u64; 6]; 63]
     r
 }
 
-// A job opened from lent shares: d words for each lent holder, and at most e of the shares wrong. The job's words go to an output of d words,
-// the set of the wrong holders, bit i - 1 for holder i, to one of one word.
+// A job opened from lent shares: d words for each lent holder, and at most e of the shares wrong, as those with a wide word are. The job's words
+// go to an output of d words, the set of the wrong holders, bit i - 1 for holder i, to one of one word.
 pub fn open_shares(
     p: words::Params,
     holders: &[u64],
@@ -209,6 +208,7 @@ pub fn open_shares(
     let mut hs = load_holders(holders);
     let mut ys = load_shares(p.d, m, shares);
     let mut rows = [[0u64; 6]; 64];
-    let opened = decoder::decode(p, m, &mut hs, &mut ys, e, &mut rows);
+    let narrow = words::all_in_width(p.k, shares);
+    let opened = decoder::decode(p, m, &mut hs, &mut ys, narrow, e, &mut rows);
     decoder::hand_out(p.d, opened, &rows, out, wrong)
 }

@@ -77,7 +77,8 @@ unfoldable pub refusedLine : ℕ → List ℕ
 unfolding decimal
 refusedLine n = ascii "refused " ++ decimal n ++ ascii "\n"
 
--- "job number; `open` or the number 3, 5 or 6; wrong holders rising, joined by commas, or `-`; the signed words, joined by commas, or `-`"
+-- "job number; `open` or the number 3, 5 or 6; wrong holders rising, joined by commas, or `-`; the signed words, joined by commas, or `-`"; 3 no longer
+-- occurs (paper 02, K1)
 unfoldable pub jobLine : ℕ → List ℕ → List ℕ → List ℕ → List ℕ
 unfolding decimal
 jobLine number state wrong words = decimal number ++ ascii " " ++ state ++ ascii " " ++ wrong ++ ascii " " ++ words ++ ascii "\n"

@@ -32,7 +32,3 @@ clear-length needed n e = unless-yes (eqb n needed) 2 (eq-eqb n needed e)
 pub width-clear : (k : ℕ) (s : List ℕ) → widthFault k s ≡ 0 → allInWidth k s ≡ true
 unfolding widthFault
 width-clear k s e = unless-held (allInWidth k s) 3 (omega arith) e
-
-pub clear-width : (k : ℕ) (s : List ℕ) → allInWidth k s ≡ true → widthFault k s ≡ 0
-unfolding widthFault
-clear-width k s e = unless-yes (allInWidth k s) 3 e

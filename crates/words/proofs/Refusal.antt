@@ -70,6 +70,24 @@ unfolding unless first
 stop b zero r h e = absurd (not-suc-le-zero h)
 stop b (suc c) r h e = simp e
 
+-- what holds of each of some faults holds of the first of them
+module _ (P : ℕ → Type 0) where
+  pub first-holds : (a b : ℕ) → P a → P b → P (first a b)
+  unfolding first
+  first-holds zero b g h = h
+  first-holds (suc a) b g h = g
+
+  module _ (none : P 0) where
+    pub unless-holds : (b : Bool) (c : ℕ) → P c → P (unless b c)
+    unfolding unless
+    unless-holds true c h = none
+    unless-holds false c h = h
+
+    pub firstOf-holds : (f : ℕ → ℕ) (n : ℕ) → ((i : ℕ) → P (f i)) → P (firstOf f n)
+    unfolding firstOf
+    firstOf-holds f zero h = none
+    firstOf-holds f (suc n) h = first-holds (firstOf f n) (f n) (firstOf-holds f n h) (h n)
+
 -- the first of the faults of a range
 pub firstOf-more : (f : ℕ → ℕ) (n : ℕ) → firstOf f n ≡ 0 → firstOf f (suc n) ≡ f n
 unfolding firstOf

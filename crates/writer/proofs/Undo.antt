@@ -1,8 +1,8 @@
 -- The file writer and the reader undo each other: a file that was written is accepted and reads as the lent lists, and an accepted file whose words
--- are in width is what the writer writes of its contents. Assumes nothing.
+-- are in width is what the writer writes of its contents. Lists with wide words, too, make a file that reads as them (`lists-fit`). Assumes nothing.
 use mathlib.Core.Path.{_≡_, refl, ap, ap₂, _∙_}
 use Prim.Native.Nat.{ℕ, zero, suc, _+_, _-_, _*_, _^_, _≤_, _<_}
-use native.Mathlib.Nat.{not-suc-le-zero, pow-le-pow-right}
+use native.Mathlib.Nat.{not-suc-le-zero, le-trans, pow-le-pow-right}
 use native.Mathlib.Omega.{arith}
 use mathlib.Core.List.{List, [], _∷_, _++_}
 use mathlib.Core.Bool.{true}
@@ -10,14 +10,14 @@ use lib.ListN.{length, getD, take, drop, length-append, length-drop}
 use lib.Seq.{take-at, drop-at, getD-take, getD-drop, length-take-le}
 use lib.Dec.{ltb, lit<}
 use borrow.Author.Tests.{lt-ltb, ltb-true}
-use Rattle.words.specs.Word.{allInWidth}
+use Rattle.words.specs.Word.{inWidth, allInWidth}
 use Rattle.words.specs.declared.Params.{Params}
 use Rattle.words.proofs.Tests.{and-left, and-right, and-yes}
-use Rattle.words.proofs.Width.{width-at}
+use Rattle.words.proofs.Width.{in-width-lt}
 use Rattle.records.specs.Num.{Bytes}
 use Rattle.records.specs.Layout.{wordSize}
 use Rattle.records.specs.Record.{headingOf}
-use Rattle.bundle.specs.Bundle.{fileFault}
+use Rattle.bundle.specs.Bundle.{rangesOk, fileFault}
 use Rattle.bundle.specs.Contents.{Job, File, fileFrom}
 use Rattle.records.specs.declared.Heading.{Heading}
 use Rattle.bundle.proofs.Headings.{ok-ranges, holder-ok, ok-holder}
@@ -28,7 +28,7 @@ use Rattle.writer.proofs.Fits.{file-length}
 use Rattle.writer.proofs.Encode.{file-written}
 use Rattle.writer.proofs.Decode.{file-read}
 use Rattle.writer.proofs.Whole.{file-accepted}
-use Rattle.writer.proofs.Calls.{jobs-count, Writable, writable, writes}
+use Rattle.writer.proofs.Calls.{jobs-count, writable, writes}
 
 -- ---- numbers that rise, as a test and by their places
 
@@ -53,8 +53,14 @@ unfolding jobsOf
 nums-of d [] ws = refl
 nums-of d (n ∷ ns) ws = ap (λ (l : List ℕ). n ∷ l) (nums-of d ns (drop d ws))
 
-jobs-fit : (h : Heading) (ns ws : List ℕ) → Words64 ns → length ns * h .params .d ≤ length ws → ((i : ℕ) → i < length ws → getD ws i 0 < 2 ^ 64) →
-    AllFit h (jobsOf (h .params .d) ns ws)
+-- words in width are of 64 bits
+pub width-fits : (k : ℕ) (ws : List ℕ) → k ≤ 64 → allInWidth k ws ≡ true → Words64 ws
+unfolding allInWidth
+width-fits k [] l e i = lit< tt
+width-fits k (w ∷ ws) l e zero = le-trans (in-width-lt k w (and-left (inWidth k w) _ e)) (pow-le-pow-right {n = 2} (lit< tt) l)
+width-fits k (w ∷ ws) l e (suc i) = width-fits k ws l (and-right (inWidth k w) _ e) i
+
+jobs-fit : (h : Heading) (ns ws : List ℕ) → Words64 ns → length ns * h .params .d ≤ length ws → Words64 ws → AllFit h (jobsOf (h .params .d) ns ws)
 unfolding jobsOf wordSize
 jobs-fit h [] ws a c f = no-job
 jobs-fit h (n ∷ ns) ws a c f =
@@ -65,44 +71,42 @@ jobs-fit h (n ∷ ns) ws a c f =
     (record {
       num-fits = a 0;
       words-count = length-take-le d ws e;
-      words-fit = λ i l. rw (getD-take d ws i 0 l) (f i (omega arith));
+      words-fit = λ i l. rw (getD-take d ws i 0 l) (f i);
     })
-    (jobs-fit h ns (drop d ws) (λ i. a (suc i)) (omega arith) (λ i l. rw (getD-drop d ws i 0) (f (d + i) (omega arith))))
+    (jobs-fit h ns (drop d ws) (λ i. a (suc i)) (omega arith) (λ i. rw (getD-drop d ws i 0) (f (d + i))))
 
-module _ (p : Params) (holder archive : ℕ) (ns ws : List ℕ) (size : ℕ) (u : archive < 2 ^ 64) (a : Words64 ns)
-    (e : writeFault (headingFor p holder archive (length ns)) ns ws size ≡ 0) where
+module _ (p : Params) (holder archive : ℕ) (ns ws : List ℕ) (u : archive < 2 ^ 64) (a : Words64 ns) where
   h : Heading
   h = headingFor p holder archive (length ns)
 
-  fine : Writable h ns ws size
-  unfolding h
-  fine = writable (headingFor p holder archive (length ns)) ns ws size e
-
-  words-small : (i : ℕ) → i < length ws → getD ws i 0 < 2 ^ 64
-  unfolding h headingFor
-  words-small i l =
-      let r = ok-ranges h (fine .ranges) in
-      let q : 2 ^ p .k ≤ 2 ^ 64 = pow-le-pow-right {n = 2} (lit< tt) (r .book .k-high) in
-      omega (arith, width-at (p .k) ws i (fine .width) l)
-
-  pub file-for-fits : FileFits (fileFor p holder archive ns ws)
+  -- with any words of 64 bits, also those that the writer declines as wide
+  pub lists-fit : rangesOk (headingFor p holder archive (length ns)) ≡ true → 1 ≤ holder → holder ≤ p .n → rising ns ≡ true →
+      length ws ≡ length ns * p .d → Words64 ws → FileFits (fileFor p holder archive ns ws)
   unfolding fileFor h headingFor
-  file-for-fits =
-      let o = ok-holder 0 h (fine .holder) in
+  lists-fit r low high rises c f =
       record {
-        ranges = fine .ranges;
-        low = o .0;
-        high = o .1;
+        ranges = r;
+        low = low;
+        high = high;
         archive-fits = u;
         count = jobs-count (p .d) ns ws;
-        fit = jobs-fit h ns ws a (omega (arith, fine .count)) words-small;
-        rising = λ q l. rw (nums-of (p .d) ns ws) (rising-at ns q (fine .rises) (omega (arith, jobs-count (p .d) ns ws)));
+        fit = jobs-fit h ns ws a (omega (arith, c)) f;
+        rising = λ q l. rw (nums-of (p .d) ns ws) (rising-at ns q rises (omega (arith, jobs-count (p .d) ns ws)));
       }
 
-  -- a file that was written is accepted, and reads as what was written
-  pub written-read : (fileFault (fileBytes (fileFor p holder archive ns ws)) ≡ 0) ×
-      (fileFrom (fileBytes (fileFor p holder archive ns ws)) 0 ≡ fileFor p holder archive ns ws)
-  written-read = file-read (fileFor p holder archive ns ws) file-for-fits
+  module _ (size : ℕ) (e : writeFault (headingFor p holder archive (length ns)) ns ws size ≡ 0) where
+    pub file-for-fits : FileFits (fileFor p holder archive ns ws)
+    unfolding h headingFor
+    file-for-fits =
+        let fine = writable h ns ws size e in
+        let o = ok-holder 0 h (fine .holder) in
+        lists-fit (fine .ranges) (o .0) (o .1) (fine .rises) (fine .count)
+        (width-fits (p .k) ws (ok-ranges h (fine .ranges) .book .k-high) (fine .width))
+
+    -- a file that was written is accepted, and reads as what was written
+    pub written-read : (fileFault (fileBytes (fileFor p holder archive ns ws)) ≡ 0) ×
+        (fileFrom (fileBytes (fileFor p holder archive ns ws)) 0 ≡ fileFor p holder archive ns ws)
+    written-read = file-read (fileFor p holder archive ns ws) file-for-fits
 
 -- ---- an accepted file is written from its own contents
 

@@ -1,19 +1,18 @@
 -- `place_opening`: the words of the place in each file, and what they open to. Assumes nothing.
 use borrow.Author.Needs.{needs}
-use mathlib.Core.Path.{_≡_, refl, sym, ap₂, _∙_}
+use mathlib.Core.Path.{_≡_, refl, sym, ap, ap₂, _∙_}
 use mathlib.Core.List.{List}
 use Prim.Native.Nat.{ℕ}
 use lib.ListN.{length, drop, replicate}
 use denote.Ref.{now}
 use Rattle.galois.specs.Element.{Element}
 use Rattle.polynomial.specs.Rows.{Rows}
-use Rattle.codewords.specs.Opening.{wrongOf}
-use Rattle.bundle.specs.Bundle.{paramsOf}
+use Rattle.codewords.specs.Opening.{wrongOf, answerTo}
+use Rattle.bundle.specs.Bundle.{paramsOf, allowanceOf}
 use Rattle.bundle.specs.Contents.{wordsOf}
 use Rattle.totals.proofs.Words.{words-length}
-use Rattle.archive.specs.Archive.{placeInWidth, placeOpening}
-use Rattle.archive.proofs.Loaded.{loaded, loaded-width, loaded-length, loaded-opens}
-use Rattle.archive.proofs.Shares.{place-width}
+use Rattle.archive.specs.Archive.{placeOpening}
+use Rattle.archive.proofs.Loaded.{loaded, loaded-sized, loaded-width, loaded-length, place-width}
 use Rattle.archive.proofs.place_opening.Statement.{statement}
 use Rattle.archive.proofs.place_opening.Tie as tie
 
@@ -40,31 +39,35 @@ rows c = c .load-place .last .1 .1 .1 .1 .0
 load-place-requires : tie.Need-load-place-requires
 load-place-requires c κs = search needs
 
+in-width-requires : tie.Need-in-width-requires
+in-width-requires c κs = search needs
+
 decode-files-requires : tie.Need-decode-files-requires
 decode-files-requires c κs =
-    let s = S (c .before .before) in
-    let r = c .before .before .load-place in
-    let ys = rows (c .before .before) in (
+    let l = c .before .before .before in
+    let s = S l in
+    let h = s .args .h in
+    let r = l .load-place in (
       s .pre .0,
       s .pre .1,
       s .pre .2,
-      λ x. loaded-width (bs s) (s .args .h) (s .pre .1) (s .args .files) (s .pre .2) (words s) (long s) ys (rest s) (r .ensures .1) (λ f l. place-width (bs s) (s .args .place) f (sym (r .ensures .0) ∙ x) l),
-      loaded-length (bs s) (s .args .h) (s .pre .1) (s .args .files) (s .pre .2) _ ys (replicate 63 (replicate 6 0)) (s .pre .0) refl (r .ensures .1),
+      loaded-sized (bs s) h (s .pre .1) (s .args .files) (s .pre .2) (words s) (long s) (rows l) (rest s) (r .ensures .1),
+      λ x. loaded-width (bs s) h (s .pre .1) (s .args .files) (s .pre .2) (words s) (long s) (rows l) (rest s) (r .ensures .1)
+          (λ f. place-width (bs s) (s .args .place) f (sym (r .ensures .0) ∙ sym (c .before .before .in-width .ensures) ∙ x)),
+      loaded-length (bs s) h (s .pre .1) (s .args .files) (s .pre .2) _ (rows l) (replicate 63 (replicate 6 0)) (s .pre .0) refl (r .ensures .1),
       s .pre .4,
     )
 
 returns : tie.Need-returns
 unfolding placeOpening
 returns c =
-    let l = c .before .before .before in
+    let l = c .before .before .before .before in
     let s = S l in
     let h = s .args .h in
-    let r = l .load-place in
     let d = c .decode-files .ensures in
-    let same = loaded (bs s) h (s .pre .1) (s .args .files) (s .pre .2) (words s) (long s) (rows l) (rest s) (r .ensures .1) in
-    let o = loaded-opens (bs s) h (s .pre .1) (s .args .files) (s .pre .2) (words s) (long s) (rows l) (rest s) (r .ensures .1) (r .result)
-    (placeInWidth (bs s) (s .args .place)) (r .ensures .0) in
+    let same = loaded (bs s) h (s .pre .1) (s .args .files) (s .pre .2) (words s) (long s) (rows l) (rest s) (l .load-place .ensures .1) in
+    let o = ap (answerTo (paramsOf (bs s)) (allowanceOf (bs s))) same in
     (d .0 ∙ o, (d .1 .0 ∙ ap₂ (wrongOf (h .params .k) (h .params .d)) same o, d .1 .1 .0))
 
 pub place-opening-spec : {M : Type 1} → statement M
-place-opening-spec = tie.close (tie.spec load-place-requires decode-files-requires returns)
+place-opening-spec = tie.close (tie.spec load-place-requires in-width-requires decode-files-requires returns)

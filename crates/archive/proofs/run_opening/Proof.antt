@@ -1,18 +1,18 @@
--- `run_opening`: the totals of the run in each file, and what they open to. Assumes nothing.
+-- `run_opening`: a wide word, or the totals of the run in each file, and what they open to. Assumes nothing.
 use borrow.Author.Needs.{needs}
-use mathlib.Core.Path.{_≡_, refl, ap₂, _∙_}
+use mathlib.Core.Path.{_≡_, refl, sym, ap, ap₂, _∙_}
 use mathlib.Core.List.{List}
 use Prim.Native.Nat.{ℕ, _-_}
 use lib.ListN.{length, drop, replicate}
 use denote.Ref.{now}
+use borrow.Author.Tests.{not-true, not-false}
 use Rattle.galois.specs.Element.{Element}
 use Rattle.polynomial.specs.Rows.{Rows}
-use Rattle.codewords.specs.Opening.{wrongOf}
-use Rattle.bundle.specs.Bundle.{paramsOf}
+use Rattle.codewords.specs.Opening.{wrongOf, answerTo}
+use Rattle.bundle.specs.Bundle.{paramsOf, allowanceOf}
 use Rattle.totals.specs.Total.{runTotal}
 use Rattle.totals.proofs.Runs.{total-length}
-use Rattle.archive.specs.Archive.{filesInWidth, runOpening}
-use Rattle.archive.proofs.Loaded.{loaded, loaded-width, loaded-length, loaded-opens}
+use Rattle.archive.proofs.Loaded.{loaded, loaded-sized, loaded-width, loaded-length, run-declines, run-answers}
 use Rattle.archive.proofs.Shares.{total-element}
 use Rattle.archive.proofs.run_opening.Statement.{statement}
 use Rattle.archive.proofs.run_opening.Tie as tie
@@ -40,31 +40,51 @@ rows c = c .load-run .last .1 .1 .1 .1 .1 .0
 load-run-requires : tie.Need-load-run-requires
 load-run-requires c κs = search needs
 
+in-width-requires : tie.Need-in-width-requires
+in-width-requires c κs = search needs
+
+returns : tie.Need-returns
+returns c =
+    let l = c .before .before in
+    let s = S l in
+    let z = run-declines (bs s) (s .args .a) (s .args .b - s .args .a)
+    (sym (l .load-run .ensures .0) ∙ sym (c .before .in-width .ensures) ∙ not-true _ (c .if1 .taken)) in
+    rw z (refl, (refl, s .pre .5))
+
 decode-files-requires : tie.Need-decode-files-requires
 decode-files-requires c κs =
-    let s = S (c .before .before) in
-    let r = c .before .before .load-run in
-    let ys = rows (c .before .before) in (
+    let l = c .before .before .before .before in
+    let s = S l in
+    let h = s .args .h in
+    let r = l .load-run in (
       s .pre .0,
       s .pre .1,
       s .pre .2,
-      λ x. loaded-width (bs s) (s .args .h) (s .pre .1) (s .args .files) (s .pre .2) (words s) (long s) ys (rest s) (r .ensures .1) (λ f l. total-element (bs s) f (s .args .a) (s .args .b - s .args .a)),
-      loaded-length (bs s) (s .args .h) (s .pre .1) (s .args .files) (s .pre .2) _ ys (replicate 63 (replicate 6 0)) (s .pre .0) refl (r .ensures .1),
+      loaded-sized (bs s) h (s .pre .1) (s .args .files) (s .pre .2) (words s) (long s) (rows l) (rest s) (r .ensures .1),
+      λ x. loaded-width (bs s) h (s .pre .1) (s .args .files) (s .pre .2) (words s) (long s) (rows l) (rest s) (r .ensures .1)
+          (λ f u. total-element (bs s) f (s .args .a) (s .args .b - s .args .a)),
+      loaded-length (bs s) h (s .pre .1) (s .args .files) (s .pre .2) _ (rows l) (replicate 63 (replicate 6 0)) (s .pre .0) refl (r .ensures .1),
       s .pre .5,
     )
 
-returns : tie.Need-returns
-unfolding runOpening
-returns c =
-    let l = c .before .before .before in
+returns-2 : tie.Need-returns-2
+returns-2 c =
+    let l = c .before .before .before .before .before in
     let s = S l in
     let h = s .args .h in
-    let r = l .load-run in
     let d = c .decode-files .ensures in
-    let same = loaded (bs s) h (s .pre .1) (s .args .files) (s .pre .2) (words s) (long s) (rows l) (rest s) (r .ensures .1) in
-    let o = loaded-opens (bs s) h (s .pre .1) (s .args .files) (s .pre .2) (words s) (long s) (rows l) (rest s) (r .ensures .1) (r .result)
-    (filesInWidth (bs s) (s .args .a) (s .args .b - s .args .a)) (r .ensures .0) in
+    let same = loaded (bs s) h (s .pre .1) (s .args .files) (s .pre .2) (words s) (long s) (rows l) (rest s) (l .load-run .ensures .1) in
+    let o = ap (answerTo (paramsOf (bs s)) (allowanceOf (bs s))) same
+    ∙ sym (run-answers (bs s) (s .args .a) (s .args .b - s .args .a)
+    (sym (l .load-run .ensures .0) ∙ sym (c .before .before .before .before .in-width .ensures) ∙ not-false _ (c .before .before .before .if1 .left))) in
     (d .0 ∙ o, (d .1 .0 ∙ ap₂ (wrongOf (h .params .k) (h .params .d)) same o, d .1 .1 .0))
 
 pub run-opening-spec : {M : Type 1} → statement M
-run-opening-spec = tie.close (tie.spec load-run-requires decode-files-requires returns)
+run-opening-spec =
+    tie.close
+    (tie.spec
+    load-run-requires
+    in-width-requires
+    returns
+    decode-files-requires
+    returns-2)

@@ -5,21 +5,26 @@ use mathlib.Core.Path.{_≡_, sym, _∙_, ap}
 use mathlib.Core.List.{[]}
 use Prim.Native.Nat.{_-_, _≤_, _<_}
 use lib.ListN.{length, getD, take}
-use Rattle.codewords.specs.Codeword.{errorSet}
-use Rattle.level.specs.Shares.{shareAt, sharesFrom}
+use Rattle.codewords.specs.Codeword.{differs}
+use Rattle.codewords.proofs.Without.{setOf, errorSet-tally}
+use Rattle.level.specs.Shares.{shareAt, sharesFrom, sharesOf}
 use Rattle.level.proofs.Shares.{from-end, sized-at}
 use Rattle.decoder.specs.Residues.{bitsOf, bitsOfAll}
 use Rattle.decoder.proofs.Lowest.{sixBits, bits-six}
-use Rattle.decoder.proofs.Compared.{differs-false, differs-true, compare-start, holder-low, holder-high, bits-more, set-same, set-more}
+use Rattle.decoder.proofs.Collected.{set-start, holder-low, holder-high, set-same, set-more}
+use Rattle.decoder.proofs.Compared.{differs-false, differs-true, bits-start, bits-more}
 use Rattle.decoder.proofs.compare.Statement.{statement}
 use Rattle.decoder.proofs.compare.Tie as tie
 
 abbrev Inv-loop : tie.InvT-loop
 Inv-loop m hs rest set₀ bits₀ i₀ set bits i =
-    (i ≤ m) × (set ≡ errorSet 64 6 [] (sharesFrom 6 hs rest i (m - i))) × (bits ≡ bitsOfAll (sharesFrom 6 hs rest i (m - i)))
+    (i ≤ m) × (set ≡ setOf (differs 64 6 []) (sharesFrom 6 hs rest i (m - i))) × (bits ≡ bitsOfAll (sharesFrom 6 hs rest i (m - i)))
 
 abbrev μ-loop : tie.MeasureT-loop
 μ-loop m hs rest set₀ bits₀ i₀ set bits i = i
+
+most : 6 ≤ 6
+most = omega arith
 
 -- the row that is looked at
 six : (l : tie.At-loop Inv-loop μ-loop) → 0 < l .loop .i → length (take 6 (getD (l .before .args .rest .now) (l .loop .i - 1) [])) ≡ 6
@@ -32,19 +37,24 @@ bits-at : (l : tie.At-loop Inv-loop μ-loop) → 0 < l .loop .i →
 bits-at l h = bits-six (getD (l .before .args .rest .now) (l .loop .i - 1) []) (six l h)
 
 loop-holds : tie.Need-loop-holds Inv-loop μ-loop
-loop-holds c = let x = compare-start (c .args .m) (c .args .hs .now) (c .args .rest .now) (c .pre .1) in (omega arith, x .0, x .1)
+loop-holds c =
+    let a = c .args in (
+      omega arith,
+      set-start 6 most (differs 64 6 []) (a .m) (a .hs .now) (a .rest .now) (c .pre .1),
+      bits-start (a .m) (a .hs .now) (a .rest .now),
+    )
 
 sub-set : tie.Need-sub-set Inv-loop μ-loop
 sub-set c =
     let l = c .before .before .before .before in
     let a = l .before .args in
-    omega (arith, holder-low (a .m) (a .hs .now) (a .rest .now) (l .before .pre .1) (l .loop .i) (omega arith) (l .loop .inv .0))
+    omega (arith, holder-low 6 most (differs 64 6 []) (a .m) (a .hs .now) (a .rest .now) (l .before .pre .1) (l .loop .i) (omega arith) (l .loop .inv .0))
 
 shl-set : tie.Need-shl-set Inv-loop μ-loop
 shl-set c =
     let l = c .before .before .before .before in
     let a = l .before .args in
-    omega (arith, holder-high (a .m) (a .hs .now) (a .rest .now) (l .before .pre .1) (l .loop .i) (omega arith) (l .loop .inv .0))
+    omega (arith, holder-high 6 most (differs 64 6 []) (a .m) (a .hs .now) (a .rest .now) (l .before .pre .1) (l .loop .i) (omega arith) (l .loop .inv .0))
 
 loop-again : tie.Need-loop-again Inv-loop μ-loop
 loop-again c =
@@ -55,9 +65,9 @@ loop-again c =
     let i = l .loop .i in
     let b = bits-at l (omega arith) in (
       omega arith,
-      set-more (a .m) h r (l .before .pre .1) i (omega arith) (l .loop .inv .0)
+      set-more 6 most (differs 64 6 []) (a .m) h r (l .before .pre .1) i (omega arith) (l .loop .inv .0)
           (differs-true (shareAt 6 h r (i - 1)) (λ z. c .before .if1 .taken (b ∙ z))) (l .loop .set) (l .loop .inv .1),
-      bits-more (a .m) h r (l .before .pre .1) i (omega arith) (l .loop .inv .0) (sixBits (getD r (i - 1) [])) (l .loop .bits) b (l .loop .inv .2),
+      bits-more (a .m) h r i (omega arith) (l .loop .inv .0) (sixBits (getD r (i - 1) [])) (l .loop .bits) b (l .loop .inv .2),
     )
 
 loop-again-2 : tie.Need-loop-again-2 Inv-loop μ-loop
@@ -70,9 +80,9 @@ loop-again-2 c =
     let b = bits-at l (omega arith) in (
       omega arith,
       l .loop .inv .1
-          ∙ set-same (a .m) h r (l .before .pre .1) i (omega arith) (l .loop .inv .0)
+          ∙ set-same 6 most (differs 64 6 []) (a .m) h r (l .before .pre .1) i (omega arith) (l .loop .inv .0)
           (differs-false (shareAt 6 h r (i - 1)) (six l (omega arith)) (sym b ∙ c .if1 .left)),
-      bits-more (a .m) h r (l .before .pre .1) i (omega arith) (l .loop .inv .0) (sixBits (getD r (i - 1) [])) (l .loop .bits) b (l .loop .inv .2),
+      bits-more (a .m) h r i (omega arith) (l .loop .inv .0) (sixBits (getD r (i - 1) [])) (l .loop .bits) b (l .loop .inv .2),
     )
 
 returns : tie.Need-returns Inv-loop μ-loop
@@ -81,7 +91,7 @@ returns c =
     let a = l .before .args in
     let e : l .loop .i ≡ 0 = omega arith in
     let f = from-end 6 (a .hs .now) (a .rest .now) (l .loop .i) (a .m) e in
-    (l .loop .inv .1 ∙ ap (errorSet 64 6 []) f, l .loop .inv .2 ∙ ap bitsOfAll f)
+    (l .loop .inv .1 ∙ ap (setOf (differs 64 6 [])) f ∙ sym (errorSet-tally 64 6 [] (sharesOf 6 (a .m) (a .hs .now) (a .rest .now))), l .loop .inv .2 ∙ ap bitsOfAll f)
 
 pub compare-spec : {M : Type 1} → statement M
 compare-spec =

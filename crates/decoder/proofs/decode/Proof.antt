@@ -2,7 +2,7 @@
 use native.Mathlib.Omega.{arith}
 use mathlib.Core.Path.{_≡_, refl}
 use mathlib.Core.List.{List}
-use Prim.Native.Nat.{_+_, _*_, _^_, _≤_, _<_}
+use Prim.Native.Nat.{suc, _+_, _*_, _^_, _≤_, _<_}
 use native.Mathlib.Nat.{pow-le-pow-right}
 use lib.ListN.{length}
 use Rattle.words.specs.Refusal.{TOO-FEW-SHARES}
@@ -33,7 +33,7 @@ enough : (c : tie.Else2) → let s = c .before .before .before .before in s .arg
 enough c = omega (arith, c .if2 .left, c .before .before .if1 .left)
 
 returns : tie.Need-returns
-returns c = let s = c .before .before in rw (few s (omega (arith, c .if1 .taken))) (refl, (refl, (s .pre .6, (s .pre .4, s .pre .5))))
+returns c = let s = c .before .before in rw (few s (omega (arith, c .if1 .taken))) (refl, (refl, (s .pre .7, (s .pre .5, s .pre .6))))
 
 sub-if2 : tie.Need-sub-if2
 sub-if2 c = search needs
@@ -44,35 +44,49 @@ sub-if2-2 c = search needs
 returns-2 : tie.Need-returns-2
 returns-2 c =
     let s = c .before .before .before .before in
-    rw (few s (omega (arith, c .before .before .if1 .left, c .if2 .taken))) (refl, (refl, (s .pre .6, (s .pre .4, s .pre .5))))
+    rw (few s (omega (arith, c .before .before .if1 .left, c .if2 .taken))) (refl, (refl, (s .pre .7, (s .pre .5, s .pre .6))))
+
+-- what both searches ask
+asks : (c : tie.Else2) →
+    let s = c .before .before .before .before in
+    let p = s .args .p in
+    ((1 ≤ p .k) × (p .k ≤ 64)) × ((2 ≤ p .d) × (p .d ≤ 6)) × (p .t ≤ 62) × (suc (p .t) + 2 * s .args .e ≤ s .args .m) × Holders (p .d) (ss s)
+asks c =
+    let s = c .before .before .before .before in
+    let r = ok-range (s .args .p) (s .pre .0) in
+    let few : 2 ^ (s .args .p .d) ≤ 2 ^ 6 = pow-le-pow-right (omega arith) (r .d-high) in (
+      (r .k-low, r .k-high),
+      (r .d-low, r .d-high),
+      omega (arith, r .t-high, r .n-high, few),
+      omega (arith, enough c),
+      (all-map (λ x h. (h .0, omega (arith, h .1, r .n-high))) (ss s) (s .pre .2 .0), rising-different (ss s) (s .pre .2 .1)),
+    )
 
 search-requires : tie.Need-search-requires
 search-requires c κs =
-    let f = c .before .before .before in
-    let s = f .before .before .before .before in
-    let r = ok-range (s .args .p) (s .pre .0) in
-    let few : 2 ^ (s .args .p .d) ≤ 2 ^ 6 = pow-le-pow-right (omega arith) (r .d-high) in
-    let th : s .args .p .t ≤ 62 = omega (arith, r .t-high, r .n-high, few) in
-    let a : Holders (s .args .p .d) (ss s) =
-    (all-map (λ x h. (h .0, omega (arith, h .1, r .n-high))) (ss s) (s .pre .2 .0), rising-different (ss s) (s .pre .2 .1)) in (
-      (r .k-low, r .k-high),
-      (r .d-low, r .d-high),
-      th,
-      s .pre .1,
-      omega (arith, enough f),
-      a,
-      s .pre .2 .1,
-      s .pre .3,
-      s .pre .4,
-      s .pre .5,
-      s .pre .6,
-    )
+    let n = c .before .before .before in
+    let s = n .before .before .before .before .before in
+    let a = asks (n .before) in
+    (a .0, a .1, a .2, s .pre .1, a .3, a .4, s .pre .2 .1, s .pre .4 (n .if3 .taken), s .pre .5, s .pre .6, s .pre .7)
 
 returns-3 : tie.Need-returns-3
 returns-3 c =
-    let f = c .before .before .before .before in
+    let f = c .before .before .before .before .before in
     let s = f .before .before .before .before in
     rw (answer-from (s .args .p) (s .args .e) (ss s) (rw (count s) (enough f))) (c .search .ensures)
+
+search-in-width-requires : tie.Need-search-in-width-requires
+search-in-width-requires c κs =
+    let n = c .before .before .before in
+    let s = n .before .before .before .before .before in
+    let a = asks (n .before) in
+    (a .0, a .1, a .2, s .pre .1, a .3, a .4, s .pre .2 .1, s .pre .3, s .pre .5, s .pre .6, s .pre .7)
+
+returns-4 : tie.Need-returns-4
+returns-4 c =
+    let f = c .before .before .before .before .before in
+    let s = f .before .before .before .before in
+    rw (answer-from (s .args .p) (s .args .e) (ss s) (rw (count s) (enough f))) (c .search-in-width .ensures)
 
 pub decode-spec : {M : Type 1} → statement M
 decode-spec =
@@ -83,4 +97,6 @@ decode-spec =
     sub-if2-2
     returns-2
     search-requires
-    returns-3)
+    returns-3
+    search-in-width-requires
+    returns-4)

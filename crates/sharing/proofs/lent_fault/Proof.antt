@@ -1,10 +1,10 @@
--- `sharing::lent_fault` meets its contract: the parameters' fault, the lengths', or those of the holders and the words. Assumes nothing.
+-- `sharing::lent_fault` meets its contract: the parameters' fault, the lengths', or the holders'. Assumes nothing.
 use borrow.Author.Needs.{needs}
 use native.Mathlib.Omega.{arith}
 use mathlib.Core.Path.{_≡_, sym, ap, ap₂, _∙_}
 use Prim.Native.Nat.{ℕ, _*_}
 use lib.ListN.{length}
-use Rattle.words.specs.Faults.{paramsFault, lengthFault, widthFault}
+use Rattle.words.specs.Faults.{paramsFault, lengthFault}
 use Rattle.words.specs.Refusal.{first, unless}
 use Rattle.words.proofs.Faults.{params-clear}
 use Rattle.words.proofs.Refusal.{first-none, first-some, first-three}
@@ -19,12 +19,12 @@ S c = c .before .before .before .before
 clear : (c : tie.Else1) → paramsFault (S c .args .p) ≡ 0
 clear c = sym (c .before .params-fault .ensures) ∙ c .if1 .left
 
--- the faults after the lengths'
-abbrev others : tie.Start → ℕ
-others s = first (unless (risingTo (s .args .p .n) 0 (s .args .holders .now)) 4) (widthFault (s .args .p .k) (s .args .shares .now))
+-- the fault after the lengths'
+abbrev named : tie.Start → ℕ
+named s = unless (risingTo (s .args .p .n) 0 (s .args .holders .now)) 4
 
 split : (c : tie.After-first2) → let s = S (c .before .before .before .before .before .before) in
-    lentFault (s .args .p) (s .args .holders .now) (s .args .shares .now) (s .args .n) (s .args .w) ≡ first (c .first2 .result) (others s)
+    lentFault (s .args .p) (s .args .holders .now) (s .args .shares .now) (s .args .n) (s .args .w) ≡ first (c .first2 .result) (named s)
 unfolding lentFault lengthFault
 split c =
     let s = S (c .before .before .before .before .before .before) in
@@ -36,7 +36,7 @@ split c =
     c .first2 .ensures
     ∙ ap₂ first (c .before .before .before .before .unless .ensures ∙ ap (λ t. unless t 2) (c .before .before .before .before .before .elements-ok .ensures))
     (c .before .first .ensures ∙ ap₂ first (c .before .before .before .length-fault .ensures) (c .before .before .length-fault2 .ensures)) in
-    first-none (paramsFault p) _ (clear (c .before .before .before .before .before .before)) ∙ sym (first-three x y z (others s)) ∙ ap (λ u. first u (others s)) (sym e)
+    first-none (paramsFault p) _ (clear (c .before .before .before .before .before .before)) ∙ sym (first-three x y z (named s)) ∙ ap (λ u. first u (named s)) (sym e)
 
 returns : tie.Need-returns
 unfolding lentFault
@@ -48,14 +48,14 @@ elements-ok-requires : tie.Need-elements-ok-requires
 elements-ok-requires c κs = omega (arith, params-clear (S c .args .p) (clear c) .d-low)
 
 returns-2 : tie.Need-returns-2
-returns-2 c = let f = c .before in sym (split f ∙ first-some (f .first2 .result) (others (S (f .before .before .before .before .before .before))) (c .if2 .taken))
+returns-2 c = let f = c .before in sym (split f ∙ first-some (f .first2 .result) (named (S (f .before .before .before .before .before .before))) (c .if2 .taken))
 
 returns-3 : tie.Need-returns-3
 returns-3 c =
-    let f = c .before .before .before .before .before in
-    c .first3 .ensures
-    ∙ ap₂ first (c .before .before .unless2 .ensures ∙ ap (λ t. unless t 4) (c .before .before .before .rising .ensures)) (c .before .width-fault .ensures)
-    ∙ sym (split f ∙ first-none (f .first2 .result) (others (S (f .before .before .before .before .before .before))) (c .before .before .before .before .if2 .left))
+    let f = c .before .before .before in
+    c .unless2 .ensures
+    ∙ ap (λ t. unless t 4) (c .before .rising .ensures)
+    ∙ sym (split f ∙ first-none (f .first2 .result) (named (S (f .before .before .before .before .before .before))) (c .before .before .if2 .left))
 
 pub lent-fault-spec : {M : Type 1} → statement M
 lent-fault-spec =
@@ -70,8 +70,6 @@ lent-fault-spec =
     (λ c κs. search needs)
     (λ c κs. search needs)
     returns-2
-    (λ c κs. search needs)
-    (λ c κs. search needs)
     (λ c κs. search needs)
     (λ c κs. search needs)
     returns-3)

@@ -11,7 +11,7 @@ use Rattle.decoder.proofs.Rows.{zero-shaped}
 use Rattle.sharing.specs.Clear.{LentClear}
 use Rattle.sharing.specs.Opening.{lent, lentFault, opening}
 use Rattle.sharing.proofs.Faults.{few-holders}
-use Rattle.sharing.proofs.Lent.{lent-clear, lent-width, lent-above, lent-rising, rising-length}
+use Rattle.sharing.proofs.Lent.{lent-clear, lent-sized, lent-width, lent-above, lent-rising, rising-length}
 use Rattle.sharing.proofs.Loaded.{loaded}
 use Rattle.sharing.proofs.Opens.{opening-clear, opening-stopped}
 use borrow.Author.Needs.{needs}
@@ -80,9 +80,13 @@ load-shares-requires c κs =
     let i = range (c .before) in
     ((i .d-low, i .d-high), few (c .before), k .words-length)
 
+all-in-width-requires : tie.Need-all-in-width-requires
+all-in-width-requires c κs = search needs
+
 decode-requires : tie.Need-decode-requires
 decode-requires c κs =
-    let l = c .before .before .before in
+    let w = c .before .before .before in
+    let l = w .before in
     let s = S (l .before .before) in
     let p = s .args .p in
     let k = known (l .before .before) in
@@ -91,7 +95,8 @@ decode-requires c κs =
       k .params,
       few (l .before .before),
       rw (same l) (lent-above (p .d) (p .n) 0 hs ws (k .rising), lent-rising (p .d) (p .n) 0 hs ws (k .rising)),
-      rw (same l) (lent-width (p .k) (p .d) hs ws (k .words-length) (k .width)),
+      rw (same l) (lent-sized (p .d) hs ws (k .words-length)),
+      λ n. rw (same l) (lent-width (p .k) (p .d) hs ws (k .words-length) (sym (w .all-in-width .ensures) ∙ n)),
       search needs,
       search needs,
       zero-shaped,
@@ -100,8 +105,8 @@ decode-requires c κs =
 hand-out-requires : tie.Need-hand-out-requires
 hand-out-requires c κs =
     let a = c .before .before .before in
-    let k = known (a .before .before .before .before .before .before) in
-    let i = range (a .before .before .before .before .before .before) in
+    let k = known (a .before .before .before .before .before .before .before) in
+    let i = range (a .before .before .before .before .before .before .before) in
     ((i .d-low, i .d-high), a .decode .ensures .1 .1 .0, k .output, k .wrong-output)
 
 same-length : tie.Need-same-length
@@ -114,7 +119,7 @@ returns-2 : tie.Need-returns-2
 returns-2 c =
     let h = c .before .before .before .before .hand-out .ensures in
     let a = c .before .before .before .before .before .before .before .before in
-    let l = a .before .before .before .before in
+    let l = a .before .before .before .before .before in
     let s = S (l .before .before) in
     let p = s .args .p in
     let ss = lent (p .d) (s .args .holders .now) (s .args .shares .now) in
@@ -133,6 +138,7 @@ open-shares-spec =
     returns
     load-holders-requires
     load-shares-requires
+    all-in-width-requires
     decode-requires
     hand-out-requires
     same-length
