@@ -22,12 +22,13 @@ extern "C" {
 #endif
 
 /* Why a call declines. Where several apply, the order is 1, 2, 4, 7, 3, 5, 6 for the calls on lists. A call on a bundle first reads it all, and
- * its first fault in byte order counts (7, 1, 4, 8); then come 4 for the holder named, 2, 9, 3, 5, 6. */
+ * its first fault in byte order counts (7, 1, 4, 8); then come 4 for the holder named, 2, 9, 3, 5, 6. Opening one job, from lent shares or at
+ * a place, never gives 3: there a share with a word of 2^k or more is present, and wrong. */
 enum {
     YIKES_OK = 0,
     YIKES_PARAMETERS = 1,     /* k, d, n, t or the number of jobs is out of its range */
     YIKES_LENGTH = 2,         /* a list or an output has not the length that the call needs */
-    YIKES_WIDE_WORD = 3,      /* a word that the call uses is 2^k or more */
+    YIKES_WIDE_WORD = 3,      /* a word that the call uses is 2^k or more, in any call but those that open one job */
     YIKES_HOLDER = 4,         /* a holder is not from 1 to n, holders do not strictly rise, or the holder named has no file in the bundle */
     YIKES_TOO_FEW_SHARES = 5, /* fewer than t + 1 + 2e shares */
     YIKES_NO_CODEWORD = 6,    /* no polynomial of degree t or less differs from e shares or fewer */
@@ -79,7 +80,8 @@ uint8_t yikes_deal(uint64_t k, size_t d, size_t n, size_t t, const uint64_t *job
                    size_t coefficients_length, uint64_t *out, size_t out_length);
 
 /* Opens a job from the shares of some holders, strictly rising, d words for each in turn, of which at most e are wrong. out has d words.
- * wrong has exactly one word, the set of the holders whose shares are wrong: bit i - 1 for holder i. Gives 1, 2, 4, 3, 5, 6. */
+ * wrong has exactly one word, the set of the holders whose shares are wrong: bit i - 1 for holder i. A share with a word of 2^k or more is wrong.
+ * Gives 1, 2, 4, 5, 6. */
 uint8_t yikes_open(uint64_t k, size_t d, size_t n, size_t t, const uint64_t *holders, size_t holders_length, const uint64_t *shares,
                    size_t shares_length, uint64_t e, uint64_t *out, size_t out_length, uint64_t *wrong, size_t wrong_length);
 
@@ -126,15 +128,16 @@ uint8_t yikes_job_number(const uint8_t *bundle, size_t bundle_length, size_t pla
  * bytes. Holders rise from file to file. Then gives 2, and 9 for an index that is not there. */
 uint8_t yikes_file(const uint8_t *bundle, size_t bundle_length, size_t index, uint64_t *part, size_t part_length);
 
-/* Opens the job at a place, 0 first. out has d words; wrong has exactly one word, the set of the holders whose shares are wrong.
- * Then gives 2, 9, 3, 5, 6. */
+/* Opens the job at a place, 0 first. out has d words; wrong has exactly one word, the set of the holders whose shares are wrong, as those with a
+ * word of 2^k or more are. Then gives 2, 9, 5, 6. */
 uint8_t yikes_open_place(const uint8_t *bundle, size_t bundle_length, size_t place, uint64_t *out, size_t out_length, uint64_t *wrong,
                          size_t wrong_length);
 
 /* The total of a holder's file over the places a to b - 1: out has d words. Then gives 4, 2, 9, 3. */
 uint8_t yikes_total(const uint8_t *bundle, size_t bundle_length, size_t holder, size_t a, size_t b, uint64_t *out, size_t out_length);
 
-/* Opens the sum of the jobs at the places a to b - 1, as yikes_open_place does one job. Then gives 2, 9, 3, 5, 6. */
+/* Opens the sum of the jobs at the places a to b - 1, as yikes_open_place does one job, but declines where a word of these jobs is 2^k or more in
+ * any file, also in a run of one place. Then gives 2, 9, 3, 5, 6. */
 uint8_t yikes_open_run(const uint8_t *bundle, size_t bundle_length, size_t a, size_t b, uint64_t *out, size_t out_length, uint64_t *wrong,
                        size_t wrong_length);
 
@@ -145,7 +148,7 @@ uint8_t yikes_fetch_body(const uint8_t *bundle, size_t bundle_length, size_t hol
 /* The number of the same fetch alone: 0 where it succeeds. Then gives 4, 9. */
 uint8_t yikes_fetch_fault(const uint8_t *bundle, size_t bundle_length, size_t holder, size_t place);
 
-/* The line of the job at a place, as the program `open` prints it: also of a job that declines with 3, 5 or 6. line has YIKES_LINE bytes or
+/* The line of the job at a place, as the program `open` prints it: also of a job that declines with 5 or 6. line has YIKES_LINE bytes or
  * more, of which the line takes the first ones and the others stay; length has exactly one word, how many bytes the line has, with its line
  * feed. Then gives 2, 9. */
 uint8_t yikes_list_line(const uint8_t *bundle, size_t bundle_length, size_t place, uint8_t *line, size_t line_length, uint64_t *length,

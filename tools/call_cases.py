@@ -319,19 +319,33 @@ def lengths_and_holders(cases):
     cases.open("holder 2^64 - 1", SMALL, [1, 2, BIG], FLAT, 0)
     cases.open("holder repeated", SMALL, [1, 2, 2], FLAT, 0)
     cases.open("holders fall", SMALL, [1, 3, 2], FLAT, 0)
-    cases.open("wide word first", SMALL, ALL, [8] + FLAT[1:], 0)
-    cases.open("wide word last", SMALL, ALL, FLAT[:-1] + [8], 0)
-    cases.open("no word is wide at k 64", Book(64, 2, 3, 1), ALL, [BIG] * 6, 0)
-    # two faults at once: 1, 2, 4, 3, 5, 6
+    # two faults at once: 1, 2, 4, 5, 6
     cases.open("book before length", Book(3, 2, 4, 1), ALL, FLAT[:-1], 0)
     cases.open("length before holder", SMALL, [0, 1, 2], FLAT[:-1], 0)
     cases.open("output before holder", SMALL, [0, 1, 2], FLAT, 0, 1)
-    cases.open("output before wide word", SMALL, ALL, [8] + FLAT[1:], 0, 1)
-    cases.open("holder before wide word", SMALL, [1, 1, 2], [0, 3, 4, 8, 7, 5], 0)
+    cases.open("output, with a wide word", SMALL, ALL, [8] + FLAT[1:], 0, 1)
+    cases.open("holder, with a wide word", SMALL, [1, 1, 2], [0, 3, 4, 8, 7, 5], 0)
     cases.open("holder before too few", SMALL, [4], [0, 3], 0)
-    cases.open("wide word before too few", SMALL, [1], [0, 8], 0)
-    cases.open("wide word before no curve", SMALL, ALL, [0, 3, 4, 4, 3, 8], 0)
     cases.open("too few before no curve", SMALL, ALL, [0, 3, 4, 4, 3, 5], 1)
+
+
+def wide(cases):
+    """A share with a wide word is present, and wrong (paper 02, K1)."""
+    cases.open("wide word first, e 0", SMALL, ALL, [8] + FLAT[1:], 0)
+    cases.open("wide word last, e 0", SMALL, ALL, FLAT[:-1] + [8], 0)
+    cases.open("no word is wide at k 64", Book(64, 2, 3, 1), ALL, [BIG] * 6, 0)
+    cases.open("one wide, right in its low bits", CONSTANT, ALL, [5, 2, 5 + 8, 2, 5, 2], 1)
+    cases.open("the first wide in both words", CONSTANT, ALL, [8, BIG, 5, 2, 5, 2], 1)
+    cases.open("one wide and one wrong", CONSTANT, ALL, [5, 2, 5 + 8, 2, 1, 2], 1)
+    cases.open("two wide, e 1", CONSTANT, ALL, [5, 2, 5 + 8, 2, 5, 2 + 8], 1)
+    cases.open("all wide", CONSTANT, ALL, [5 + 8, 2] * 3, 1)
+    cases.open("one share, wide", CONSTANT, [3], [5 + 8, 2], 0)
+    cases.open("too few, one of them wide", CONSTANT, [1, 2], [5, 2, 5 + 8, 2], 1)
+    cases.open("too few, all of them wide", SMALL, [1], [0, 8], 0)
+    cases.open("one wide, k 1", Book(1, 2, 3, 0), ALL, [1, 0, 1, 2, 1, 0], 1)
+    cases.open("one wide, k 63", Book(63, 2, 3, 0), ALL, [1, 2**62, 1 + 2**63, 2**62, 1, 2**62], 1)
+    cases.open("two wide of five, t 0, output's old words", Book(8, 3, 5, 0), [1, 2, 3, 4, 5], [256, 0, 0] * 2 + [7, 8, 9] * 3, 2, old=[1, 2, 3])
+    cases.open("three wide of five, output kept", Book(8, 3, 5, 0), [1, 2, 3, 4, 5], [256, 0, 0] * 3 + [7, 8, 9] * 2, 2, old=[1, 2, 3])
 
 
 # ---------------------------------------------------------------- openings: several wrong shares
@@ -358,6 +372,16 @@ def several(cases):
     case("one wrong of five, e 1", 1, [(2, 2, 16)], [3, 6])
     # the allowance falls by those dropped at a level
     case("two wrong in bit 0 and one in bit 4", 2, [(1, 0, 1), (2, 1, 24), (7, 0, 3)])
+    # and by those with wide words, here 32 more than the right ones
+    case("two wide", 2, [(1, 0, good[1][0] + 32), (7, 2, good[7][2] + 32)])
+    case("one wide and one wrong in bit 3", 2, [(2, 2, good[2][2] + 32), (6, 1, 13)])
+    case("one wide and wrong, one wide", 2, [(2, 2, 16 + 32), (4, 0, good[4][0] + 32)])
+    case("two wide and one wrong", 2, [(1, 0, good[1][0] + 32), (3, 1, BIG), (6, 1, 13)])
+    case("one wide and two wrong", 2, [(1, 0, good[1][0] + 32), (2, 2, 16), (6, 1, 13)])
+    case("three wide", 2, [(i, 0, good[i][0] + 32) for i in (1, 4, 7)])
+    case("two wide of six, e 2", 2, [(i, 0, good[i][0] + 32) for i in (1, 4)], [3])
+    case("two wide of five, e 2", 2, [(i, 0, good[i][0] + 32) for i in (1, 4)], [3, 6])
+    case("two wide of five, e 1", 1, [(i, 0, good[i][0] + 32) for i in (1, 4)], [3, 6])
 
 
 def linear(cases):
@@ -395,6 +419,13 @@ def large(cases):
     cases.open("21 of them wrong, in bits 0, 31 and 63", book, holders, words, 21)
     words = spoil(words, 332, 1)
     cases.open("22 of them wrong", book, holders, words, 21)
+    book = Book(8, 6, 63, 20)
+    words = call_deal(book, [word >> 56 for word in job], [word >> 56 for word in coefficients], [9] * 378)
+    for first, by in ((2, 2**8), (20, 2**63), (38, 2**32)):
+        words = spoil(words, first, by)
+    cases.open("21 of 63 wide, t 20", book, holders, words, 21)
+    words = spoil(words, 332, 2**8)
+    cases.open("22 of 63 wide, t 20", book, holders, words, 21)
     book, coefficients = Book(64, 6, 63, 62), draw(3, 372)
     words = call_deal(book, job, coefficients, [9] * 378)
     cases.deal("63 shares, t 62", book, job, coefficients)
@@ -406,7 +437,7 @@ def main():
     edges, openings = Cases(), Cases()
     for part in (books, element_lengths, widths, products, shares, readings):
         part(edges)
-    for part in (dealings, marked, books_and_few, lengths_and_holders, several, linear, large):
+    for part in (dealings, marked, books_and_few, lengths_and_holders, wide, several, linear, large):
         part(openings)
     edges.write("edges")
     openings.write("openings")

@@ -39,10 +39,8 @@ def search_through_subsets(name, bundle):
     if m < book.t + 1 + 2 * e or math.comb(m, book.t + 1) * m * (book.t + 1) > MOST_TERMS:
         return
     for place in range(len(bundle.numbers)):
-        shares = bundle.shares(place)
-        if all(map(ring.in_width, shares.values())):
-            both = [way(ring, book.t, shares, e) for way in (ref.open_by_jumps, ref.open_by_subsets)]
-            assert both[0] == both[1], (name, place)
+        both = [way(ring, book.t, bundle.shares(place), e) for way in (ref.open_by_jumps, ref.open_by_subsets)]
+        assert both[0] == both[1], (name, place)
 
 
 def bundle(e, book, holders, jobs, archive=7):
@@ -117,6 +115,21 @@ def moved_above(rng, ring, shares, wrong):
 
 
 DAMAGE = [any_bits, high_bits, lowest_bit, last_word, own_levels, moved, moved_above]
+
+
+def wide_word(rng, ring, shares, wrong):
+    """One wide word, right in its low bits."""
+    return {i: ref.widened(rng, ring, shares[i], 1) for i in wrong}
+
+
+def wide_words(rng, ring, shares, wrong):
+    """Every word wide, right in its low bits."""
+    return {i: ref.widened(rng, ring, shares[i], ring.d) for i in wrong}
+
+
+def wide_and_wrong(rng, ring, shares, wrong):
+    """Another element, and some words of it wide."""
+    return {i: ref.widened(rng, ring, share, rng.randint(1, ring.d)) for i, share in any_bits(rng, ring, shares, wrong).items()}
 
 
 def damaged(rng, book, shares, wrong, way):
@@ -262,8 +275,8 @@ def allowances():
     case("just-enough", bundle(1, wide, list(range(21, 64)), [(4, {**shares, 63: (0,) * 6})]), [line(wide, 4, words, [63])])
 
 
-def wide_words():
-    """3 comes before 5 and 6, and "a wide word counts only in the job or run opened or added"."""
+def wide_one_of_three():
+    """A wide word "counts only in the job or run opened or added", and there its share is wrong; 5 is judged by m with it."""
     for k, d in ((1, 2), (3, 2), (8, 4), (31, 3), (32, 5), (63, 6)):
         rng = random.Random(f"wide-{k}-{d}")
         book = Book(k, d, 3, 0)
@@ -274,13 +287,66 @@ def wide_words():
             no_curve = {1: flipped(shares[1], [(0, 0)]), 2: flipped(shares[2], [(1, 0)]), 3: wide[holder]}
             jobs = [(1, shares), (2, wide), (3, no_curve), (4, shares)]
             case(f"wide-{kind}-k{k}-d{d}", bundle(1, book, shares, jobs),
-                 [line(book, 1, words), "2 3 - -", "3 3 - -", line(book, 4, words)])
-            case(f"wide-{kind}-too-few-k{k}-d{d}", bundle(2, book, shares, jobs),
-                 ["1 5 - -", "2 3 - -", "3 3 - -", "4 5 - -"])
+                 [line(book, 1, words), line(book, 2, words, [holder]), "3 6 - -", line(book, 4, words)])
+            case(f"wide-{kind}-too-few-k{k}-d{d}", bundle(2, book, shares, jobs), [f"{number} 5 - -" for number in (1, 2, 3, 4)])
     full = Book(64, 2, 1, 0)
     case("no-word-is-wide-k64", bundle(0, full, [1], [(1, {1: (2**64 - 1, 2**63)})]), ["1 open - -1,-9223372036854775808"])
     low_bits_right = {1: (5, 2), 2: (5, 2), 3: (5 + 8, 2)}
-    case("wide-right-in-low-bits", bundle(1, Book(3, 2, 3, 0), [1, 2, 3], [(1, low_bits_right)]), ["1 3 - -"])
+    case("wide-right-in-low-bits", bundle(1, Book(3, 2, 3, 0), [1, 2, 3], [(1, low_bits_right)]), ["1 open 3 -3,2"])
+
+
+def wide_shares():
+    """Paper 02, K1: a share with a wide word is "present" and "differing from every polynomial": it uses up the allowance."""
+    for k, d in ((1, 3), (8, 4), (63, 6)):
+        book, e = Book(k, d, 7, 1), 2
+        least = book.t + 1 + 2 * e
+
+        def wide_case(name, m, wide, way, others=0):
+            """One job of m holders: so many shares wide, and so many others wrong within the width."""
+            name = f"wide-{name}-k{k}-d{d}"
+            rng = random.Random(name)
+            holders = sorted(rng.sample(range(1, 8), m))
+            words, shares = dealt(rng, book)
+            wrong = rng.sample(holders, wide + others)
+            shares = damaged(rng, book, damaged(rng, book, shares, wrong[:wide], way), wrong[wide:], any_bits)
+            opened = line(book, 1, words, sorted(wrong)) if wide + others <= e else "1 6 - -"
+            case(name, bundle(e, book, holders, [(1, shares)]), ["1 5 - -" if m < least else opened])
+
+        wide_case("one-word", 7, 1, wide_word)
+        wide_case("just-enough", least, e, wide_word)
+        wide_case("all-words", least, e, wide_words)
+        wide_case("and-wrong", least, e, wide_and_wrong)
+        wide_case("beside-wrong", 7, 1, wide_word, 1)
+        wide_case("over", 7, e + 1, wide_word)
+        wide_case("over-by-wrong", 7, e, wide_word, 1)
+        wide_case("over-by-wide", 7, 1, wide_words, e)
+        wide_case("over-too-few", least - 1, e + 1, wide_word)
+        wide_case("all-shares", 7, 7, wide_words)
+
+        name = f"wide-job-by-job-k{k}-d{d}"
+        rng, jobs, lines = random.Random(name), [], []
+        for number, wrong in enumerate([[], [1, 2], [], [6, 7], [2, 3, 4], []]):
+            words, shares = dealt(rng, book)
+            jobs.append((number, damaged(rng, book, shares, wrong, wide_word)))
+            lines.append(line(book, number, words, wrong) if len(wrong) <= e else f"{number} 6 - -")
+        case(name, bundle(e, book, range(1, 8), jobs), lines)
+
+    book, right, wide = Book(3, 3, 5, 0), (5, 2, 0), (5 + 8, 2, 0)
+    other, other_wide = (1, 2, 0), (1, 2, 8)
+    case("wide-e0", bundle(0, book, [1, 2, 3], [(1, {1: right, 2: right, 3: wide})]), ["1 6 - -"])
+    case("wide-e0-alone", bundle(0, book, [2], [(1, {2: wide}), (2, {2: right})]), ["1 6 - -", "2 open - -3,2,0"])
+    # three of five agree in their low bits
+    for name, five, expect in (("majority", [right, other, other_wide, right, other_wide], "1 6 - -"),
+                               ("minority", [other_wide, right, other_wide, right, right], "1 open 1,3 -3,2,0")):
+        case(f"wide-{name}", bundle(2, book, range(1, 6), [(1, dict(enumerate(five, 1)))]), [expect])
+    rng, book = random.Random("wide-none-k64"), Book(64, 3, 7, 2)
+    words, shares = dealt(rng, book, (2**64 - 1, 2**63, 2**64 - 2))
+    case("wide-none-k64", bundle(2, book, shares, [(1, damaged(rng, book, shares, [3, 7], high_bits))]), [line(book, 1, words, [3, 7])])
+    rng, book = random.Random("wide-63-holders"), Book(63, 6, 63, 20)
+    words, shares = dealt(rng, book)
+    jobs = [(at, damaged(rng, book, shares, wrong, wide_word)) for at, wrong in enumerate((range(1, 22), range(43, 64), range(1, 23)))]
+    case("wide-63-holders", bundle(21, book, shares, jobs),
+         [line(book, 0, words, range(1, 22)), line(book, 1, words, range(43, 64)), "2 6 - -"])
 
 
 def signed_words():
@@ -511,7 +577,7 @@ def strangers():
     case("number-stranger-length", with_piece({6: job(12, (7, 2, 0))}), 7)
     case("number-stranger-then-cut", with_piece({5: job(12, (7, 2))})[:-1], 8)
     case("number-stranger-then-frame", with_piece({5: job(9, (5, 2)), 6: b"\0"}), 8)
-    case("wide-word-no-fault", with_piece({5: job(10, (5, 2**64 - 1))}), ["10 3 - -", "11 6 - -"])
+    case("wide-word-no-fault", with_piece({5: job(10, (5, 2**64 - 1))}), ["10 6 - -", "11 6 - -"])
 
 
 def rising():
@@ -572,9 +638,9 @@ def write():
 
 
 if __name__ == "__main__":
-    for group in (marked, random_bundles, extreme_books, too_many_wrong, majority, levels, low_degrees, allowances, wide_words,
-                  signed_words, job_numbers, cuts, bytes_changed, lengths_and_kinds, sequences, books, holders, strangers, rising,
-                  long_inputs):
+    for group in (marked, random_bundles, extreme_books, too_many_wrong, majority, levels, low_degrees, allowances, wide_one_of_three,
+                  wide_shares, signed_words, job_numbers, cuts, bytes_changed, lengths_and_kinds, sequences, books, holders, strangers,
+                  rising, long_inputs):
         group()
     write()
     print(f"{len(CASES)} cases, {sum(len(data) + len(printed) for data, printed in CASES.values())} bytes")

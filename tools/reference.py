@@ -1,5 +1,5 @@
 #!/usr/bin/env python3
-"""A second implementation of paper 01, for comparison: ring, dealing, opening, file writer, bundle reader, listing.
+"""A second implementation of papers 01 and 02 (K1), for comparison: ring, dealing, opening, file writer, bundle reader, listing.
 
 Without arguments this is the program `open`: a bundle on standard input, its listing on standard output.
 `--selftest` checks the paper's examples, and three ways of opening against each other.
@@ -179,9 +179,9 @@ def weights(k, d, holders, x):
 
 
 def through(ring, shares, holders, x):
-    """The value at x of the polynomial of degree below len(holders) that meets the shares of `holders`."""
+    """The value at x of the polynomial of degree below len(holders) that meets the shares of `holders`, modulo 2^k."""
     if x in holders:
-        return shares[x]
+        return ring.add(shares[x], ring.zero)
     result = ring.zero
     for i, weight in zip(holders, weights(ring.k, ring.d, holders, x)):
         result = ring.add(result, ring.mul(weight, shares[i]))
@@ -189,6 +189,10 @@ def through(ring, shares, holders, x):
 
 
 # ---------------------------------------------------------------- opening: each gives (words, wrong holders) or None
+
+# The words of a share may be wide. They are compared with those of a value as they stand, so that such a share differs
+# "from every polynomial" (paper 02, K1).
+
 
 def open_by_definition(ring, t, shares, e):
     """The words of 6: a "polynomial of degree at most t" that "differs from e shares or fewer"; every one is tried."""
@@ -220,16 +224,20 @@ def open_by_jumps(ring, t, shares, e):
     Otherwise let v be the lowest bit at which a share leaves F. A polynomial P within the allowance meets t + 1
     shares, so P = F + 2^v G, and G modulo 2 is within the allowance of (share - F) / 2^v modulo 2: a word that Gao
     decodes. The shares wrong there are dropped "and the allowance falls by their number". At least one falls, as
-    the word is zero at t + 1 points but not everywhere, and a word of degree at most t cannot be so.
+    the word is zero at t + 1 points but not everywhere, and a word of degree at most t cannot be so. Where v is k or
+    more, shares leave F in wide words alone, so that P is F, which is not within the allowance.
     """
     inside, allowance = dict(shares), e
     while True:
         holders = tuple(inside)[:t + 1]
-        gaps = {i: ring.sub(share, through(ring, inside, holders, i)) for i, share in inside.items()}
+        curve = {i: through(ring, inside, holders, i) for i in inside}
+        gaps = {i: [x - y for x, y in zip(share, curve[i])] for i, share in inside.items()}
         if sum(any(gap) for gap in gaps.values()) <= allowance:
             wrong = [i for i in shares if i not in inside or any(gaps[i])]
             return through(ring, inside, holders, 0), wrong
         v = min(lowest_bit(word) for gap in gaps.values() for word in gap if word)
+        if v >= ring.k:
+            return None
         word = {i: sum((gap[j] >> v & 1) << j for j in range(ring.d)) for i, gap in gaps.items()}
         wrong = gao(field_of(ring.d), t, word, allowance)
         if wrong is None:
@@ -328,17 +336,15 @@ def gao(field, t, word, e):
 
 
 def open_shares(book, shares, e):
-    """Words and wrong holders from {holder: words}. Order 3, 5, 6; what is a fault of the book or list is judged before."""
-    ring = ring_of(book.k, book.d)
-    require(all(map(ring.in_width, shares.values())), 3)
+    """Words and wrong holders from {holder: words}. Order 5, 6; what is a fault of the book or list is judged before."""
     require(len(shares) >= book.t + 1 + 2 * e, 5)
-    answer = open_by_jumps(ring, book.t, shares, e)
+    answer = open_by_jumps(ring_of(book.k, book.d), book.t, shares, e)
     require(answer is not None, 6)
     return answer
 
 
 def open_lent(book, holders, words, e):
-    """Opening of lent shares: d words for each lent holder. "Order outside files: 1, 2, 4, 7, 3, 5, 6." """
+    """Opening of lent shares: d words for each lent holder. Order 1, 2, 4, 5, 6: "Opening one job no longer gives 3". """
     check_book(book)
     require(len(words) == len(holders) * book.d, 2)
     require(all(1 <= i <= book.n for i in holders) and all(a < b for a, b in zip(holders, holders[1:])), 4)
@@ -515,14 +521,17 @@ def total(data, holder, a, b):
 
 
 def open_place(data, place):
-    """Words and wrong holders of one job. Order: the bundle's faults, 9, 3, 5, 6."""
+    """Words and wrong holders of one job. Order: the bundle's faults, 9, 5, 6."""
     bundle = Bundle(data)
     require(place < len(bundle.numbers), 9)
     return open_shares(bundle.book, bundle.shares(place), bundle.e)
 
 
 def open_run(data, a, b):
-    """ "Each file's shares over it are added and the sums opened as one job's shares, with the bundle's e." """
+    """ "Each file's shares over it are added and the sums opened as one job's shares, with the bundle's e."
+
+    Order: the bundle's faults, 9, 3, 5, 6, of a run of one place too.
+    """
     bundle = Bundle(data)
     bundle.check_run(a, b)
     return open_shares(bundle.book, {i: bundle.total(i, a, b) for i in bundle.files}, bundle.e)
@@ -535,7 +544,7 @@ def joined(numbers):
 
 
 def job_line(bundle, place):
-    """ "Job number; `open` or the number 3, 5 or 6; wrong holders rising, or `-`; the signed words, or `-`." """
+    """Job number; `open` or the number 5 or 6; "wrong holders rising, or `-`; the signed words, or `-`." """
     try:
         words, wrong = open_shares(bundle.book, bundle.shares(place), bundle.e)
     except Refused as refused:
@@ -598,6 +607,22 @@ def test_marked():
     assert [number_of(check_book, Book(1, 4, 1, 0), jobs) for jobs in (1000, 1001)] == [0, 1]
 
 
+def test_wide():
+    """K1: a wide share is present, and differs from every polynomial, whatever its low bits are."""
+    right, wide, wrong = (5, 2), (5 + 8, 2), (1, 2)
+    assert answer(SAMPLE_BOOK, [1, 2, 3], [wide, right, right], 1) == (right, [1])
+    assert answer(SAMPLE_BOOK, [1, 2, 3], [right, right, (8, 2**64 - 1)], 1) == (right, [3])
+    assert answer(SAMPLE_BOOK, [1, 2, 3], [right, right, wide], 0) == 6
+    assert answer(SAMPLE_BOOK, [1, 2, 3], [right, wide, wide], 1) == 6
+    assert answer(SAMPLE_BOOK, [1, 2, 3], [right, wide, wrong], 1) == 6
+    assert answer(SAMPLE_BOOK, [1, 2], [right, wide], 1) == 5  # too few by number, though the wide one is one of them
+    assert answer(SAMPLE_BOOK, [1], [wide], 0) == 6
+    data = order(1) + b"".join(heading(SAMPLE_BOOK, i, 7, 2) + job(1, right) + job(2, wide if i == 3 else right) for i in (1, 2, 3))
+    assert listing(data) == "job state wrong words\n1 open - -3,2\n2 open 3 -3,2\n"
+    assert open_run(data, 0, 1) == (right, []) and [number_of(open_run, data, *run) for run in ((1, 2), (0, 2))] == [3, 3]
+    assert [number_of(total, data, holder, 1, 2) for holder in (2, 3)] == [0, 3]
+
+
 def test_bundle():
     """The paper's sample, and the calls on a bundle."""
     data = sample()
@@ -648,43 +673,56 @@ def test_ring(rng):
 
 
 def random_shares(rng, ring, n, t):
-    """Shares of some holders: dealt, and then changed, moved to a second polynomial, or both, in some of them."""
+    """Shares of some holders: dealt, and then changed, moved to a second polynomial, made wide, or several of these, in some of them."""
     first, second = ([random_element(rng, ring) for _ in range(t + 1)] for _ in range(2))
     if rng.random() < 0.5:  # agree in all but the high bits
         low = rng.randrange(ring.k)
         second = [ring.add(a, tuple(x << low & ring.mask for x in b)) for a, b in zip(first, second)]
-    shares = {}
-    for i in sorted(rng.sample(range(1, n + 1), rng.randint(t + 1, n))):
-        polynomial = first if rng.random() < 0.7 else second
+    shares, often = {}, rng.choice((0, 1))
+    for i in sorted(rng.sample(range(1, n + 1), rng.choice((rng.randint(t + 1, n), n)))):
+        polynomial = second if rng.random() < 0.3 * often else first
         shares[i] = ring.value(polynomial, ring.point(i))
-        if rng.random() < 0.2:
+        if rng.random() < 0.2 * often:
             change = [0] * ring.d
             change[rng.randrange(ring.d)] = 1 << rng.randrange(ring.k)
             shares[i] = ring.add(shares[i], tuple(change))
+    if ring.k < 64 and rng.random() < 0.5:
+        for i in rng.sample(sorted(shares), rng.randint(0, (len(shares) - t - 1) // 2 + 1)):
+            shares[i] = widened(rng, ring, shares[i], rng.randint(1, ring.d))
     return shares
+
+
+def widened(rng, ring, share, count):
+    """`share` with bits above the width in `count` of its words."""
+    words = list(share)
+    for j in rng.sample(range(ring.d), count):
+        words[j] += rng.choice((1, rng.randrange(1, 1 << 64 - ring.k), (1 << 64 - ring.k) - 1)) << ring.k
+    return tuple(words)
 
 
 def test_openings(rng, rounds):
     """The ways of opening against each other; gives how often each answer came."""
-    seen = {"open": 0, "6": 0, "by definition": 0}
+    seen = {"open": 0, "6": 0, "open with a wide share": 0, "6 with a wide share": 0, "by definition": 0}
     for _ in range(rounds):
         d = rng.choice((2, 2, 3, 3, 4, 5, 6))
-        n, k = rng.randint(1, min(2**d - 1, 9)), rng.choice((1, 2, 3, 4, 5, 8, 16, 31, 64))
-        t, ring = rng.randrange(n), ring_of(k, d)
+        n, k = rng.randint(1, min(2**d - 1, 9)), rng.choice((1, 2, 3, 4, 5, 8, 16, 31, 63, 64))
+        t, ring = rng.choice((rng.randrange(n), rng.randrange(n // 3 + 1))), ring_of(k, d)
         shares = random_shares(rng, ring, n, t)
-        e = rng.randint(0, (len(shares) - t - 1) // 2)
+        most = (len(shares) - t - 1) // 2
+        e = rng.choice((rng.randint(0, most), most))
         result = open_by_jumps(ring, t, shares, e)
         assert result == open_by_subsets(ring, t, shares, e), (ring.k, d, t, shares, e)
         if k * d * (t + 1) <= 8:
             assert result == open_by_definition(ring, t, shares, e), (ring.k, d, t, shares, e)
             seen["by definition"] += 1
-        seen["open" if result else "6"] += 1
+        wide = "" if all(map(ring.in_width, shares.values())) else " with a wide share"
+        seen[("open" if result else "6") + wide] += 1
     return seen
 
 
 def test_large(rng):
     """Books too large for the subsets: dealt jobs with at most e wrong shares open to themselves, with exact names."""
-    for book, e in ((Book(64, 6, 63, 20), 21), (Book(64, 6, 63, 0), 31), (Book(17, 5, 31, 10), 10), (Book(64, 4, 15, 4), 5)):
+    for book, e in ((Book(64, 6, 63, 20), 21), (Book(63, 6, 63, 0), 31), (Book(17, 5, 31, 10), 10), (Book(64, 4, 15, 4), 5)):
         ring = ring_of(book.k, book.d)
         for _ in range(3):
             words = random_element(rng, ring)
@@ -693,6 +731,9 @@ def test_large(rng):
             for i in wrong:
                 shares[i] = ring.add(shares[i], (1 << rng.randrange(ring.k),) + ring.zero[1:])
             assert open_shares(book, shares, e) == (words, wrong)
+            if ring.k < 64:
+                wide = {i: widened(rng, ring, share, 1) if i in wrong and rng.random() < 0.5 else share for i, share in shares.items()}
+                assert open_shares(book, wide, e) == (words, wrong)
             by = random_element(rng, ring)
             if any(x % 2 for x in by):  # "dealt shares so multiplied .. open to the job times that element"
                 scaled = {i: ring.mul(by, share) for i, share in shares.items()}
@@ -718,6 +759,7 @@ def test_runs(rng):
 def selftest():
     rng = random.Random(1)
     test_marked()
+    test_wide()
     test_bundle()
     test_ring(rng)
     test_runs(rng)

@@ -132,7 +132,9 @@ static void elements(void) {
 static void sharing(void) {
     const uint64_t job[2] = {5, 2}, other[2] = {3, 1}, shares[6] = {0, 3, 4, 4, 7, 5}, wide[6] = {0, 3, 4, 8, 7, 5};
     const uint64_t moved[6] = {0, 3, 4, 4, 3, 5}, two[4] = {0, 3, 3, 5}, constant[6] = {5, 2, 5, 2, 1, 2}, same[6] = {5, 2, 5, 2, 5, 2};
-    const uint64_t all[3] = {1, 2, 3}, ends[2] = {1, 3}, m7[2] = {1, 6}, none[1] = {0}, third[1] = {4};
+    const uint64_t all[3] = {1, 2, 3}, ends[2] = {1, 3}, m7[2] = {1, 6}, none[1] = {0}, first[1] = {1}, third[1] = {4};
+    const uint64_t one_wide[6] = {5, 2, 5, 2, 13, 2}, both_words[6] = {8, UINT64_MAX, 5, 2, 5, 2}, two_wide[6] = {13, 2, 5, 2, 5, 10};
+    const uint64_t beside_wrong[6] = {13, 2, 5, 2, 1, 2};
     const uint64_t zeroth[3] = {0, 1, 2}, fourth[3] = {1, 2, 4}, twice[3] = {1, 1, 3}, falling[3] = {2, 1, 3}, far[3] = {1, 2, UINT64_MAX};
     size_t i;
 
@@ -184,21 +186,38 @@ static void sharing(void) {
     DECLINES(YIKES_HOLDER, yikes_open(BOOK, 1, twice, 3, shares, 6, 0, OUT, SECOND));
     DECLINES(YIKES_HOLDER, yikes_open(BOOK, 1, falling, 3, shares, 6, 0, OUT, SECOND));
     DECLINES(YIKES_HOLDER, yikes_open(BOOK, 1, far, 3, shares, 6, 0, OUT, SECOND));
-    DECLINES(YIKES_WIDE_WORD, yikes_open(BOOK, 1, all, 3, wide, 6, 1, OUT, SECOND));
     DECLINES(YIKES_TOO_FEW_SHARES, yikes_open(BOOK, 1, all, 3, shares, 6, 1, OUT, SECOND));
     DECLINES(YIKES_TOO_FEW_SHARES, yikes_open(BOOK, 1, all, 3, shares, 6, UINT64_MAX, OUT, SECOND));
     DECLINES(YIKES_TOO_FEW_SHARES, yikes_open(BOOK, 1, all, 3, shares, 6, UINT64_C(1) << 63, OUT, SECOND));
     DECLINES(YIKES_TOO_FEW_SHARES, yikes_open(BOOK, 1, NULL, 0, NULL, 0, 0, OUT, SECOND));
     DECLINES(YIKES_NO_CODEWORD, yikes_open(BOOK, 1, all, 3, moved, 6, 0, OUT, SECOND));
+
+    /* a share with a wide word is present and wrong: its holder is named, and it counts for 5 and for 6 */
+    GIVES(yikes_open(BOOK, 0, all, 3, one_wide, 6, 1, OUT, SECOND), now_holds(job, 2, third, 1));
+    GIVES(yikes_open(BOOK, 0, all, 3, both_words, 6, 1, OUT, SECOND), now_holds(job, 2, first, 1));
+    DECLINES(YIKES_NO_CODEWORD, yikes_open(BOOK, 0, all, 3, one_wide, 6, 0, OUT, SECOND));
+    DECLINES(YIKES_NO_CODEWORD, yikes_open(BOOK, 0, all, 3, two_wide, 6, 1, OUT, SECOND));
+    DECLINES(YIKES_NO_CODEWORD, yikes_open(BOOK, 0, all, 3, beside_wrong, 6, 1, OUT, SECOND));
+    DECLINES(YIKES_NO_CODEWORD, yikes_open(BOOK, 1, all, 3, wide, 6, 0, OUT, SECOND));
+    DECLINES(YIKES_NO_CODEWORD, yikes_open(BOOK, 0, all, 1, two_wide, 2, 0, OUT, SECOND));
+    DECLINES(YIKES_TOO_FEW_SHARES, yikes_open(BOOK, 1, all, 3, wide, 6, 1, OUT, SECOND));
+    DECLINES(YIKES_TOO_FEW_SHARES, yikes_open(BOOK, 0, all, 2, two_wide, 4, 1, OUT, SECOND));
+    DECLINES(YIKES_LENGTH, yikes_open(BOOK, 0, all, 3, one_wide, 6, 1, o.words, 3, SECOND));
+    DECLINES(YIKES_HOLDER, yikes_open(BOOK, 0, falling, 3, one_wide, 6, 1, OUT, SECOND));
 }
 
-/* The largest book: 63 shares of six words of 64 bits, 21 of them damaged. */
-static void largest(void) {
-    uint64_t job[6], coefficients[20 * 6], shares[63 * 6], holders[63], set = 0, x = 1;
+static uint64_t state = 1;
+static uint64_t draw(void) {
+    return state = state * UINT64_C(6364136223846793005) + 1442695040888963407u;
+}
+
+/* The largest book, 63 shares of six words of k bits, 21 of them damaged: the highest bit of half of these is wrong with k 64, and wide below. */
+static void largest(uint64_t k) {
+    uint64_t job[6], coefficients[20 * 6], shares[63 * 6], holders[63], set = 0;
     size_t i;
-    for (i = 0; i < 6; i++) job[i] = x = x * UINT64_C(6364136223846793005) + 1442695040888963407u;
-    for (i = 0; i < COUNT(coefficients); i++) coefficients[i] = x = x * UINT64_C(6364136223846793005) + 1442695040888963407u;
-    check(yikes_deal(64, 6, 63, 20, job, 6, coefficients, COUNT(coefficients), shares, COUNT(shares)) == YIKES_OK, __LINE__, "deal");
+    for (i = 0; i < 6; i++) job[i] = draw() >> (64 - k);
+    for (i = 0; i < COUNT(coefficients); i++) coefficients[i] = draw() >> (64 - k);
+    check(yikes_deal(k, 6, 63, 20, job, 6, coefficients, COUNT(coefficients), shares, COUNT(shares)) == YIKES_OK, __LINE__, "deal");
     for (i = 0; i < 63; i++) {
         holders[i] = i + 1;
         if (i % 3 == 1) {
@@ -206,9 +225,9 @@ static void largest(void) {
             set |= UINT64_C(1) << i;
         }
     }
-    GIVES(yikes_open(64, 6, 63, 20, holders, 63, shares, COUNT(shares), 21, o.words, 6, SECOND), now_holds(job, 6, &set, 1));
-    DECLINES(YIKES_NO_CODEWORD, yikes_open(64, 6, 63, 20, holders, 63, shares, COUNT(shares), 20, o.words, 6, SECOND));
-    DECLINES(YIKES_TOO_FEW_SHARES, yikes_open(64, 6, 63, 20, holders, 63, shares, COUNT(shares), 22, o.words, 6, SECOND));
+    GIVES(yikes_open(k, 6, 63, 20, holders, 63, shares, COUNT(shares), 21, o.words, 6, SECOND), now_holds(job, 6, &set, 1));
+    DECLINES(YIKES_NO_CODEWORD, yikes_open(k, 6, 63, 20, holders, 63, shares, COUNT(shares), 20, o.words, 6, SECOND));
+    DECLINES(YIKES_TOO_FEW_SHARES, yikes_open(k, 6, 63, 20, holders, 63, shares, COUNT(shares), 22, o.words, 6, SECOND));
 }
 
 static void readings(void) {
@@ -563,16 +582,33 @@ static void openings(void) {
     DECLINES(YIKES_OUT_OF_RANGE, yikes_list_line(bundle, n, 2, o.bytes, YIKES_LINE, SECOND));
     DECLINES(YIKES_OUT_OF_RANGE, yikes_list_line(bundle, n, SIZE_MAX, o.bytes, YIKES_LINE, SECOND));
 
-    /* a wide word in job 11 of holder 1: counts where the job is used, and nowhere else */
+    /* holder 3's share of job 10 made right, and then wide above its right bits: it is wrong where the job is opened, 3 in a run or a total */
     memcpy(wide, bundle, n);
-    wide[74] = 8;
+    wide[210] = 5;
+    GIVES(yikes_open_place(wide, n, 0, OUT, SECOND), now_holds(job, 2, none, 1));
+    wide[217] = 128;
     GIVES(yikes_accept(wide, n), untouched());
     GIVES(yikes_open_place(wide, n, 0, OUT, SECOND), now_holds(job, 2, third, 1));
-    DECLINES(YIKES_WIDE_WORD, yikes_open_place(wide, n, 1, OUT, SECOND));
-    DECLINES(YIKES_WIDE_WORD, yikes_total(wide, n, 1, 0, 2, OUT));
-    DECLINES(YIKES_WIDE_WORD, yikes_open_run(wide, n, 1, 2, OUT, SECOND));
+    DECLINES(YIKES_NO_CODEWORD, yikes_open_place(wide, n, 1, OUT, SECOND));
+    DECLINES(YIKES_WIDE_WORD, yikes_open_run(wide, n, 0, 1, OUT, SECOND));
+    DECLINES(YIKES_WIDE_WORD, yikes_open_run(wide, n, 0, 2, OUT, SECOND));
+    DECLINES(YIKES_NO_CODEWORD, yikes_open_run(wide, n, 1, 2, OUT, SECOND));
+    GIVES(yikes_open_run(wide, n, 0, 0, OUT, SECOND), now_holds(zero, 2, none, 1));
+    DECLINES(YIKES_WIDE_WORD, yikes_total(wide, n, 3, 0, 1, OUT));
+    GIVES(yikes_total(wide, n, 1, 0, 2, OUT), now_holds(total, 2, NULL, 0));
     poison();
-    check(yikes_list_line(wide, n, 1, o.bytes, YIKES_LINE, SECOND) == YIKES_OK && memcmp(o.bytes, "11 3 - -\n", 9) == 0, __LINE__, "a wide word");
+    check(yikes_list_line(wide, n, 0, o.bytes, YIKES_LINE, SECOND) == YIKES_OK, __LINE__, "list_line");
+    length = 15;
+    check(now_holds(NULL, 0, &length, 1) == 0 && now_bytes("10 open 3 -3,2\n", 15), __LINE__, "the line of a job with a wide word");
+    /* a second wide share is one more than the allowance, and with an allowance of 2 the files are too few */
+    wide[44 + 8] |= 8;
+    DECLINES(YIKES_NO_CODEWORD, yikes_open_place(wide, n, 0, OUT, SECOND));
+    DECLINES(YIKES_WIDE_WORD, yikes_open_run(wide, n, 0, 1, OUT, SECOND));
+    poison();
+    check(yikes_list_line(wide, n, 0, o.bytes, YIKES_LINE, SECOND) == YIKES_OK && memcmp(o.bytes, "10 6 - -\n", 9) == 0, __LINE__, "two wide shares");
+    wide[6] = 2;
+    DECLINES(YIKES_TOO_FEW_SHARES, yikes_open_place(wide, n, 0, OUT, SECOND));
+    DECLINES(YIKES_WIDE_WORD, yikes_open_run(wide, n, 0, 1, OUT, SECOND));
 
     /* an allowance that the files are too few for */
     memcpy(few, bundle, n);
@@ -587,7 +623,9 @@ static void openings(void) {
 int main(void) {
     elements();
     sharing();
-    largest();
+    largest(64);
+    largest(63);
+    largest(8);
     readings();
     writing();
     faults();

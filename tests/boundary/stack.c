@@ -1,7 +1,7 @@
 /*
  * The stack that each call of include/yikescanvas.h uses, measured: each runs on a stack of its own that was painted before, with the largest
- * parameters (d 6, n 63, words of 64 bits), t 20 and 21 wrong shares where it opens, and each prints its name and the bytes from the
- * painted stack's top to the lowest one that changed, less what an empty call uses.
+ * parameters at which a word can be wide (d 6, n 63, words of 63 bits), t 20 and 21 wrong shares where it opens, 11 of them wide where it opens one
+ * job, and each prints its name and the bytes from the painted stack's top to the lowest one that changed, less what an empty call uses.
  */
 #define _GNU_SOURCE
 #include <stdint.h>
@@ -11,13 +11,13 @@
 
 #include "yikescanvas.h"
 
-enum { K = 64, D = 6, N = 63, T = 20, E = 21, JOBS = 3, STACK = 1 << 20, FILE_BYTES = 23 + JOBS * (14 + 8 * D) };
+enum { K = 63, D = 6, N = 63, T = 20, E = 21, JOBS = 3, STACK = 1 << 20, FILE_BYTES = 23 + JOBS * (14 + 8 * D) };
 #define BOOK K, D, N, T
 #define JOB_WORDS (JOBS * D)
 
 static uint64_t job[D], coefficients[T * D], shares[N * D], holders[N], words[N][JOB_WORDS], out[YIKES_ABOUT], wrong[2], dealt[N * D];
 static const uint64_t numbers[JOBS] = {1, 20, 300};
-static uint8_t files[N * FILE_BYTES], bundle[7 + N * FILE_BYTES], copy[sizeof bundle], line[YIKES_LINE], order[7];
+static uint8_t files[N * FILE_BYTES], bundle[7 + N * FILE_BYTES], wide[sizeof bundle], copy[sizeof bundle], line[YIKES_LINE], order[7];
 
 static void empty(void) {}
 static uint8_t answer;
@@ -26,7 +26,7 @@ static void scale(void) { answer = yikes_scale(BOOK, shares, D, job, D, out, D);
 static void invert(void) { answer = yikes_invert(BOOK, job, D, out, D); }
 static void deal(void) { answer = yikes_deal(BOOK, job, D, coefficients, T * D, dealt, N * D); }
 static void open_shares(void) { answer = yikes_open(BOOK, holders, N, shares, N * D, E, out, D, wrong, 1); }
-static void read_signed(void) { answer = yikes_signed(K, UINT64_MAX, out, 1); }
+static void read_signed(void) { answer = yikes_signed(K, UINT64_MAX >> 1, out, 1); }
 static void write_file(void) { answer = yikes_write_file(BOOK, 1, 7, numbers, JOBS, words[0], JOB_WORDS, files, FILE_BYTES); }
 static void write_order(void) { answer = yikes_write_order(E, order, 7); }
 static void write_bundle(void) { answer = yikes_write_bundle(E, files, sizeof files, copy, sizeof copy); }
@@ -36,12 +36,12 @@ static void accept(void) { answer = yikes_accept(bundle, sizeof bundle); }
 static void describe(void) { answer = yikes_describe(bundle, sizeof bundle, out, YIKES_ABOUT); }
 static void job_number(void) { answer = yikes_job_number(bundle, sizeof bundle, 1, out, 1); }
 static void file_part(void) { answer = yikes_file(bundle, sizeof bundle, N - 1, out, 3); }
-static void open_place(void) { answer = yikes_open_place(bundle, sizeof bundle, 1, out, D, wrong, 1); }
+static void open_place(void) { answer = yikes_open_place(wide, sizeof wide, JOBS - 1, out, D, wrong, 1); }
 static void total(void) { answer = yikes_total(bundle, sizeof bundle, N, 0, JOBS, out, D); }
 static void open_run(void) { answer = yikes_open_run(bundle, sizeof bundle, 0, JOBS, out, D, wrong, 1); }
 static void fetch_body(void) { answer = yikes_fetch_body(bundle, sizeof bundle, N, 1, wrong, 2); }
 static void fetch_fault(void) { answer = yikes_fetch_fault(bundle, sizeof bundle, N, 1); }
-static void list_line(void) { answer = yikes_list_line(bundle, sizeof bundle, 1, line, sizeof line, wrong, 1); }
+static void list_line(void) { answer = yikes_list_line(wide, sizeof wide, JOBS - 1, line, sizeof line, wrong, 1); }
 
 static const struct {
     const char *name;
@@ -71,10 +71,11 @@ static const struct {
 
 static uint64_t state = 7;
 static uint64_t draw(void) {
-    return state = state * UINT64_C(6364136223846793005) + UINT64_C(1442695040888963407);
+    return (state = state * UINT64_C(6364136223846793005) + UINT64_C(1442695040888963407)) >> (64 - K);
 }
 
-/* A bundle of all 63 files, and the shares of its second job, in both of which the same 21 holders' are wrong. */
+/* A bundle of all 63 files, and the shares of its last job, in both of which the same 21 holders' are wrong; 11 of these shares of the last job are
+ * made wide in the second bundle and in the shares. */
 static int prepare(void) {
     size_t i, j, p;
     for (i = 0; i < N; i++) holders[i] = i + 1;
@@ -90,7 +91,13 @@ static int prepare(void) {
     for (i = 0; i < N; i++) {
         if (yikes_write_file(BOOK, i + 1, 7, numbers, JOBS, words[i], JOB_WORDS, files + i * FILE_BYTES, FILE_BYTES) != 0) return 0;
     }
-    return yikes_write_bundle(E, files, sizeof files, bundle, sizeof bundle) == 0;
+    if (yikes_write_bundle(E, files, sizeof files, bundle, sizeof bundle) != 0) return 0;
+    memcpy(wide, bundle, sizeof bundle);
+    for (i = 1; i < N; i += 6) {
+        shares[i * D] |= UINT64_C(1) << K;
+        wide[7 + (i + 1) * FILE_BYTES - 8 * D + 7] |= 1 << (K - 56);
+    }
+    return 1;
 }
 
 static unsigned char stack[STACK];

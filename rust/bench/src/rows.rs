@@ -75,17 +75,19 @@ const JOBS: usize = 100;
 enum Damage {
     AnyBits,
     TopBit,
+    Wide,
 }
 
 fn number(answer: Result<(), Refusal>) -> u8 {
     answer.map_or_else(|refusal| refusal as u8, |()| 0)
 }
 
-const ROWS: [(&str, usize, Make); 10] = [
+const ROWS: [(&str, usize, Make); 11] = [
     ("deal", INPUTS, dealing),
     ("open, none wrong", INPUTS, |random, book| opening(random, book, None)),
     ("open, e wrong in any bits", INPUTS, |random, book| opening(random, book, Some(Damage::AnyBits))),
     ("open, e wrong in the top bit", INPUTS, |random, book| opening(random, book, Some(Damage::TopBit))),
+    ("open, e wide", INPUTS, |random, book| opening(random, book, Some(Damage::Wide))),
     ("open all places, same holders wrong", PLACES, |random, book| places(random, book, true)),
     ("open all places, different holders wrong", PLACES, |random, book| places(random, book, false)),
     ("accept", 1, accepting),
@@ -95,8 +97,16 @@ const ROWS: [(&str, usize, Make); 10] = [
 ];
 
 pub fn all() -> Vec<Row> {
-    let of_book = |book| ROWS.into_iter().map(move |(name, items, make)| Row { name, book, items, make });
     BOOKS.into_iter().flat_map(of_book).collect()
+}
+
+/// The rows of a book. No word of 64 bits is wide, so that a row with wide words has 63.
+fn of_book(book: Book) -> impl Iterator<Item = Row> {
+    ROWS.into_iter().map(move |(name, items, make)| {
+        let most = if name.ends_with("wide") { 63 } else { 64 };
+        let p = Params { k: book.p.k.min(most), ..book.p };
+        Row { name, book: Book { p, ..book }, items, make }
+    })
 }
 
 fn dealing(random: &mut Random, book: Book) -> Work {
@@ -121,13 +131,7 @@ fn deal(random: &mut Random, p: Params) -> Vec<u64> {
 
 /// As many different holders as the allowance, counted from 0.
 fn holders(random: &mut Random, book: Book) -> Vec<usize> {
-    let mut holders: Vec<usize> = (0..book.p.n).collect();
-    for i in 0..book.e {
-        let other = random.from_to(i, book.p.n - 1);
-        holders.swap(i, other);
-    }
-    holders.truncate(book.e);
-    holders
+    random.some(book.e, book.p.n)
 }
 
 fn damage(random: &mut Random, book: Book, wrong: &[usize], damage: Damage, shares: &mut [u64]) {
@@ -137,6 +141,7 @@ fn damage(random: &mut Random, book: Book, wrong: &[usize], damage: Damage, shar
         match damage {
             Damage::AnyBits => share.copy_from_slice(&random.words(k, d)),
             Damage::TopBit => share[random.below(d)] ^= 1 << (k - 1),
+            Damage::Wide => share[random.below(d)] |= 1 << k,
         }
     }
 }

@@ -5,6 +5,7 @@ use crate::openings::damage;
 use crate::outcome::{number, on_bytes, on_words, Answers};
 use crate::random::Random;
 use second::Params;
+use std::ops::Range;
 
 /// A bundle as it was written, and where its parts are.
 struct Written {
@@ -65,16 +66,26 @@ fn length(random: &mut Random, right: usize) -> usize {
     }
 }
 
+/// Whether a word of the jobs at these places is wide, in a bundle that is accepted.
+fn wide(bytes: &[u8], places: Range<usize>) -> bool {
+    second::read_bundle(bytes).is_ok_and(|bundle| {
+        let (ring, jobs) = (bundle.params().ring(), bundle.files.iter().filter_map(|file| file.jobs.get(places.clone())));
+        jobs.flatten().any(|job| !ring.in_width(&job.words))
+    })
+}
+
 fn place_calls(random: &mut Random, answers: &mut Answers, written: &Written, bytes: &[u8]) -> Result<(), String> {
     let place = index(random, written.jobs);
+    let names =
+        if wide(bytes, place..place.saturating_add(1)) { ["open_place, wide", "list_line, wide"] } else { ["open_place", "list_line"] };
     let lengths = [length(random, written.params.d), length(random, 1)];
     let library = on_words(lengths, |out, wrong| library::open_place(bytes, place, out, wrong));
     let second = on_words(lengths, |out, wrong| number(second::open_place(bytes, place, out, wrong)));
-    answers.same("open_place", &(bytes, place), &library, &second)?;
+    answers.same(names[0], &(bytes, place), &library, &second)?;
     let lengths = [random.pick(&[399, 400, 400, 500]), length(random, 1)];
     let library = on_bytes(lengths, |line, length| library::list_line(bytes, place, line, length));
     let second = on_bytes(lengths, |line, length| number(second::list_line(bytes, place, line, length)));
-    answers.same("list_line", &(bytes, place), &library, &second)
+    answers.same(names[1], &(bytes, place), &library, &second)
 }
 
 fn holder_calls(random: &mut Random, answers: &mut Answers, written: &Written, bytes: &[u8]) -> Result<(), String> {
@@ -108,7 +119,12 @@ fn run_call(random: &mut Random, answers: &mut Answers, written: &Written, bytes
     let lengths = [length(random, written.params.d), length(random, 1)];
     let library = on_words(lengths, |out, wrong| library::open_run(bytes, a, b, out, wrong));
     let second = on_words(lengths, |out, wrong| number(second::open_run(bytes, a, b, out, wrong)));
-    answers.same("open_run", &(bytes, a, b), &library, &second)
+    let name = match wide(bytes, a..b) {
+        true if b - a == 1 => "open_run of one, wide",
+        true => "open_run, wide",
+        false => "open_run",
+    };
+    answers.same(name, &(bytes, a, b), &library, &second)
 }
 
 fn description_calls(random: &mut Random, answers: &mut Answers, written: &Written, bytes: &[u8]) -> Result<(), String> {
@@ -169,7 +185,7 @@ fn rewrite(random: &mut Random, answers: &mut Answers, bytes: &[u8]) -> Result<(
     answers.same("write_bundle", &(e, files), &library, &second)
 }
 
-/// Jobs dealt and damaged, in the files of some of the holders; the words may be wide in one place.
+/// Jobs dealt and damaged, in the files of some of the holders; in half of the bundles some of the shares are then made wide.
 fn write(random: &mut Random, answers: &mut Answers) -> Result<Written, String> {
     let p = random.params();
     let mut present: Vec<usize> = (1..=p.n).filter(|_| !random.one_in(8)).collect();
@@ -186,13 +202,16 @@ fn write(random: &mut Random, answers: &mut Answers) -> Result<Written, String> 
     }
     let most = if present.len() > p.t { (present.len() - p.t - 1) / 2 } else { 0 };
     let e = if random.one_in(8) { random.word() as u8 } else { random.from_to(0, most) as u8 };
-    let archive = random.word();
-    let mut numbers: Vec<u64> = vec![];
+    let (archive, widens) = (random.word(), random.one_in(2));
+    let (mut numbers, mut widened): (Vec<u64>, Vec<usize>) = (vec![], vec![]);
     let mut files = vec![vec![]; present.len()];
     for _ in 0..jobs {
         let gap = random.word() >> random.from_to(11, 63);
         numbers.push(numbers.last().map_or(gap << 10, |last| last + gap + 1));
-        let words = shares(random, p, &present, usize::from(e).min(most + 1));
+        let allowance = usize::from(e).min(most + 1);
+        let wide = if widens && !random.one_in(4) { random.wide_shares(p.k, allowance, present.len()) } else { 0 };
+        widened.push(wide);
+        let words = shares(random, p, &present, allowance.saturating_sub(wide));
         files.iter_mut().zip(words.chunks(p.d)).for_each(|(file, words)| file.extend(words));
     }
     let mut bytes = vec![0; ORDER];
@@ -207,7 +226,9 @@ fn write(random: &mut Random, answers: &mut Answers) -> Result<Written, String> 
         bytes.extend(file);
     }
     let mut written = Written { params: p, jobs, bytes };
-    widen(random, &mut written);
+    for (place, count) in widened.into_iter().enumerate() {
+        widen(random, &mut written, place, count);
+    }
     Ok(written)
 }
 
@@ -226,15 +247,13 @@ fn shares(random: &mut Random, p: Params, present: &[usize], e: usize) -> Vec<u6
     words
 }
 
-/// A word made wide in the bytes, in one bundle of eight: no fault of the bundle.
-fn widen(random: &mut Random, written: &mut Written) {
-    if written.jobs == 0 || written.params.k == 64 || !random.one_in(8) {
-        return;
+/// Some shares of the job at a place made wide in the bytes: no fault of the bundle.
+fn widen(random: &mut Random, written: &mut Written, place: usize, count: usize) {
+    for file in random.some(count, written.files()) {
+        let start = ORDER + file * written.file_size() + 23 + place * written.job_size() + 14;
+        let bits = random.wide_bits(written.params.k, written.params.d).into_iter().flat_map(u64::to_le_bytes);
+        written.bytes[start..].iter_mut().zip(bits).for_each(|(byte, bits)| *byte |= bits);
     }
-    let (file, place, word) = (random.below(written.files()), random.below(written.jobs), random.below(written.params.d));
-    let bit = random.from_to(written.params.k as usize, 63);
-    let start = ORDER + file * written.file_size() + 23 + place * written.job_size() + 14 + 8 * word;
-    written.bytes[start + bit / 8] |= 1 << (bit % 8);
 }
 
 /// The bundle with one to three faults.

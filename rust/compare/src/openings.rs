@@ -35,7 +35,8 @@ fn compare_opening(case: &Opening, answers: &mut Answers) -> Result<(), String> 
     let Opening { params, holders, words, e, lengths } = case;
     let library = on_words(*lengths, |out, wrong| library::open(*params, holders, words, *e, out, wrong));
     let second = on_words(*lengths, |out, wrong| number(second::open(*params, holders, words, *e, out, wrong)));
-    answers.same("open", case, &library, &second)
+    let wide = params.check().is_ok() && !params.ring().in_width(words);
+    answers.same(if wide { "open, wide" } else { "open" }, case, &library, &second)
 }
 
 /// The shares of a random polynomial, from both.
@@ -64,7 +65,7 @@ fn polynomial(p: Params, job: &[u64], coefficients: &[u64]) -> Vec<u64> {
     shares
 }
 
-/// Some of the dealt shares, some of them damaged, with an allowance that fits more or less.
+/// Some of the dealt shares, some of them damaged, and some wide, with an allowance that fits more or less.
 fn lend(random: &mut Random, p: Params, dealt: &[u64]) -> Opening {
     let mut present: Vec<usize> = (1..=p.n).collect();
     if random.one_in(2) {
@@ -88,6 +89,13 @@ fn lend(random: &mut Random, p: Params, dealt: &[u64]) -> Opening {
     };
     let mut words: Vec<u64> = present.iter().flat_map(|i| dealt[(i - 1) * p.d..i * p.d].to_vec()).collect();
     damage(random, p, dealt, &present, wrong, &mut words);
+    if random.one_in(2) {
+        let count = random.wide_shares(p.k, (e as usize).min(most).saturating_sub(wrong), m);
+        for i in random.some(count, m) {
+            let bits = random.wide_bits(p.k, p.d);
+            words[i * p.d..].iter_mut().zip(bits).for_each(|(word, bits)| *word |= bits);
+        }
+    }
     Opening { params: p, holders: present.iter().map(|i| *i as u64).collect(), words, e, lengths: [p.d, 1] }
 }
 
@@ -101,11 +109,7 @@ pub fn damage(random: &mut Random, p: Params, dealt: &[u64], present: &[usize], 
     let shift = if random.one_in(2) { 0 } else { from };
     let (job, coefficients) = (random.words(p.k, p.d), random.words(p.k, p.d * p.t));
     let step = polynomial(p, &job, &coefficients);
-    let mut places: Vec<usize> = (0..present.len()).collect();
-    for round in 0..wrong.min(places.len()) {
-        let chosen = random.from_to(round, places.len() - 1);
-        places.swap(round, chosen);
-        let place = places[round];
+    for place in random.some(wrong, present.len()) {
         let holder = present[place] - 1;
         let one = random.below(p.d);
         for j in 0..p.d {
@@ -126,12 +130,11 @@ pub fn damage(random: &mut Random, p: Params, dealt: &[u64], present: &[usize], 
 fn spoil(random: &mut Random, case: &mut Opening) {
     let p = case.params;
     for _ in 0..random.from_to(1, 2) {
-        match random.below(6) {
+        match random.below(5) {
             0 => case.params = random.bad_params(),
             1 => spoil_holders(random, p, &mut case.holders),
-            2 => random.widen(p.k, &mut case.words),
-            3 => case.lengths[0] = random.wrong_length(p.d),
-            4 => case.lengths[1] = random.wrong_length(1),
+            2 => case.lengths[0] = random.wrong_length(p.d),
+            3 => case.lengths[1] = random.wrong_length(1),
             _ => {
                 let length = random.wrong_length(case.words.len());
                 case.words.resize(length, 0);

@@ -7,7 +7,7 @@ use std::fmt::{Debug, Display, Formatter};
 /// What stands in every buffer before a call.
 pub const POISON: u64 = 0xa5a5_a5a5_a5a5_a5a5;
 
-/// How often each call gave each answer.
+/// How often each call gave each answer; an opening is counted apart where a word of it is wide.
 #[derive(Default)]
 pub struct Answers(BTreeMap<&'static str, [u64; 10]>);
 
@@ -55,7 +55,7 @@ impl Display for Answers {
     fn fmt(&self, f: &mut Formatter) -> std::fmt::Result {
         for (call, counts) in &self.0 {
             let counts: Vec<String> = (0..10).filter(|i| counts[*i] > 0).map(|i| format!("{i}: {}", counts[i])).collect();
-            writeln!(f, "  {call:12} {}", counts.join(", "))?;
+            writeln!(f, "  {call:21} {}", counts.join(", "))?;
         }
         Ok(())
     }

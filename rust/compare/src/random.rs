@@ -68,6 +68,38 @@ impl Random {
         (0..count).map(|_| if ends { self.pick(&[0, 1, u64::MAX]) } else { self.word() } & mask(k)).collect()
     }
 
+    /// Some different numbers below m, in any order.
+    pub fn some(&mut self, count: usize, m: usize) -> Vec<usize> {
+        let mut numbers: Vec<usize> = (0..m).collect();
+        for i in 0..count.min(m) {
+            let other = self.from_to(i, m - 1);
+            numbers.swap(i, other);
+        }
+        numbers.truncate(count);
+        numbers
+    }
+
+    /// How many of m shares to make wide: as many as there is room for in the allowance or fewer, one more, or any number.
+    pub fn wide_shares(&mut self, k: u64, room: usize, m: usize) -> usize {
+        match self.below(8) {
+            _ if k == 64 => 0,
+            0..=2 => self.from_to(0, room),
+            3 | 4 => room,
+            5 | 6 => room + 1,
+            _ => self.from_to(0, m),
+        }
+    }
+
+    /// Bits above the width for the d words of a share, in one of them or in several.
+    pub fn wide_bits(&mut self, k: u64, d: usize) -> Vec<u64> {
+        let mut bits = vec![0; d];
+        let count = if self.one_in(2) { 1 } else { self.from_to(1, d) };
+        for j in self.some(count, d) {
+            bits[j] = self.pick(&[1, 1 << (63 - k), u64::MAX >> k]) << k;
+        }
+        bits
+    }
+
     /// A list of words, one of them made wide if words can be.
     pub fn widen(&mut self, k: u64, words: &mut [u64]) {
         if k < 64 && !words.is_empty() {
@@ -94,6 +126,18 @@ mod tests {
     fn splitmix64_of_seed_0() {
         let mut random = Random::new(0);
         assert_eq!([random.word(), random.word()], [0xe220_a839_7b1d_cdaf, 0x6e78_9e6a_a1b9_65f4]);
+    }
+
+    #[test]
+    fn wide_bits_are_above_the_width() {
+        let mut random = Random::new(1);
+        for k in 1..64 {
+            for _ in 0..100 {
+                let (bits, count) = (random.wide_bits(k, 6), random.wide_shares(k, 5, 20));
+                assert!(count <= 20 && bits.iter().any(|w| *w != 0) && bits.iter().all(|w| *w & mask(k) == 0));
+            }
+        }
+        assert_eq!(random.wide_shares(64, 5, 20), 0);
     }
 
     #[test]

@@ -2,7 +2,7 @@
 
 use crate::decode::Shares;
 use crate::ring::{add, mask, Element};
-use crate::{demand, open_shares, Params, Refusal};
+use crate::{demand, in_width, open_shares, Params, Refusal};
 use std::array::from_fn;
 use std::ops::Range;
 use std::slice::ChunksExact;
@@ -23,6 +23,16 @@ struct Heading {
 
 fn word(bytes: &[u8]) -> u64 {
     u64::from_le_bytes(bytes.try_into().expect("8 bytes"))
+}
+
+/// The words of a job's record.
+fn words<const D: usize>(record: &[u8]) -> Element<D> {
+    from_fn(|j| word(&record[14 + 8 * j..22 + 8 * j]))
+}
+
+/// All words together, bit by bit.
+fn together<const D: usize>(seen: u64, words: &Element<D>) -> u64 {
+    words.iter().fold(seen, |seen, w| seen | w)
 }
 
 /// The first six bytes of a record: the length of kind and body, and the kind.
@@ -106,14 +116,20 @@ impl<'a> Bundle<'a> {
         self.bytes[self.start(file) + 10].into()
     }
 
+    /// The words of the job at a place of a file, as they stand.
+    fn job<const D: usize>(&self, file: usize, place: usize) -> Element<D> {
+        let at = self.start(file) + HEADING_SIZE + place * job_size(D);
+        words(&self.bytes[at..at + job_size(D)])
+    }
+
     /// The sum of a file's jobs at the places of a run, if their words are in width.
     fn total<const D: usize>(&self, file: usize, run: Range<usize>) -> Result<Element<D>, Refusal> {
         let mut sum = [0; D];
         let mut seen = 0;
         let jobs = &self.bytes[self.start(file) + HEADING_SIZE..];
         for record in jobs[run.start * job_size(D)..run.end * job_size(D)].chunks_exact(job_size(D)) {
-            let words: Element<D> = from_fn(|j| word(&record[14 + 8 * j..22 + 8 * j]));
-            seen = words.iter().fold(seen, |seen, w| seen | w);
+            let words = words(record);
+            seen = together(seen, &words);
             sum = add(sum, words);
         }
         let mask = mask(self.heading.params.k);
@@ -126,12 +142,24 @@ impl<'a> Bundle<'a> {
         Ok(())
     }
 
-    fn open<const D: usize, const N: usize>(&self, run: Range<usize>, out: &mut [u64], wrong: &mut [u64]) -> Result<(), Refusal> {
+    fn open_place<const D: usize, const N: usize>(&self, place: usize, out: &mut [u64], wrong: &mut [u64]) -> Result<(), Refusal> {
+        let mut shares = Shares::<D, N>::new();
+        let mut seen = 0;
+        for file in 0..self.files {
+            let words = self.job(file, place);
+            seen = together(seen, &words);
+            shares.push(self.holder(file), words);
+        }
+        let p = self.heading.params;
+        open_shares(p, shares, in_width(p.k, &[seen]), self.bytes[6].into(), out, wrong)
+    }
+
+    fn open_run<const D: usize, const N: usize>(&self, run: Range<usize>, out: &mut [u64], wrong: &mut [u64]) -> Result<(), Refusal> {
         let mut shares = Shares::<D, N>::new();
         for file in 0..self.files {
             shares.push(self.holder(file), self.total(file, run.clone())?);
         }
-        open_shares(self.heading.params, shares, self.bytes[6].into(), out, wrong)
+        open_shares(self.heading.params, shares, true, self.bytes[6].into(), out, wrong)
     }
 
     fn lengths(&self, out: &[u64], wrong: &[u64]) -> Result<(), Refusal> {
@@ -147,14 +175,14 @@ pub fn open_place(bytes: &[u8], place: usize, out: &mut [u64], wrong: &mut [u64]
     let bundle = Bundle::read(bytes)?;
     bundle.lengths(out, wrong)?;
     demand(place < bundle.heading.jobs, Refusal::OutOfRange)?;
-    for_d!(bundle.heading.params.d, bundle.open::<D, { 1 << D }>(place..place + 1, out, wrong))
+    for_d!(bundle.heading.params.d, bundle.open_place::<D, { 1 << D }>(place, out, wrong))
 }
 
 pub fn open_run(bytes: &[u8], a: usize, b: usize, out: &mut [u64], wrong: &mut [u64]) -> Result<(), Refusal> {
     let bundle = Bundle::read(bytes)?;
     bundle.lengths(out, wrong)?;
     demand(a <= b && b <= bundle.heading.jobs, Refusal::OutOfRange)?;
-    for_d!(bundle.heading.params.d, bundle.open::<D, { 1 << D }>(a..b, out, wrong))
+    for_d!(bundle.heading.params.d, bundle.open_run::<D, { 1 << D }>(a..b, out, wrong))
 }
 
 pub fn total(bytes: &[u8], holder: usize, a: usize, b: usize, out: &mut [u64]) -> Result<(), Refusal> {

@@ -1,7 +1,9 @@
 //! The decoder. It interpolates over the ring through the first t + 1 shares and compares the others. If too many differ, one field
-//! decoding at the lowest bit at which any differs names shares that every codeword differs from; they are dropped, and it goes on.
+//! decoding at the lowest bit at which any differs names shares that every codeword differs from; they are dropped, and it goes on. Shares
+//! with a wide word differ from every polynomial, and are dropped first.
 
 use crate::field::{differing, Slice};
+use crate::in_width;
 use crate::ring::{add, eval, integer, inverse, mask, mul, mul_by_point, sub, Element};
 
 /// The shares still in: there are fewer than N = 2^D.
@@ -44,6 +46,11 @@ impl<const D: usize, const N: usize> Shares<D, N> {
         }
         self.count = kept;
         set
+    }
+
+    /// The lanes of the shares that have a wide word.
+    fn wide_lanes(&self, k: u64) -> u64 {
+        self.iter().enumerate().fold(0, |lanes, (i, (_, words))| lanes | u64::from(!in_width(k, &words)) << i)
     }
 
     /// Lane i is the point of share i's holder.
@@ -108,9 +115,21 @@ fn slice<const D: usize>(rows: &[Element<D>], v: u32) -> Slice<D> {
     slice
 }
 
-/// The free term of the codeword, not cut to k bits, and the set of wrong holders. There are at least t + 1 + 2 e shares.
-pub fn decode<const D: usize, const N: usize>(k: u64, t: usize, shares: &mut Shares<D, N>, e: u32) -> Option<(Element<D>, u64)> {
+/// The free term of the codeword, not cut to k bits, and the set of wrong holders. There are at least t + 1 + 2 e shares, and `narrow` tells
+/// that no word of them is wide, which saves looking.
+pub fn decode<const D: usize, const N: usize>(
+    k: u64,
+    t: usize,
+    shares: &mut Shares<D, N>,
+    narrow: bool,
+    e: u32,
+) -> Option<(Element<D>, u64)> {
     let (mut bound, mut wrong) = (e, 0);
+    if !narrow {
+        let lanes = shares.wide_lanes(k);
+        bound = bound.checked_sub(lanes.count_ones())?;
+        wrong = shares.drop_lanes(lanes);
+    }
     loop {
         let q = interpolate(k, t, shares);
         let left = compare(k, t, &q[..=t], shares);

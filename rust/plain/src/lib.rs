@@ -59,7 +59,7 @@ fn write_shares<const D: usize>(k: u64, job: &[u64], coefficients: &[u64], out: 
     }
 }
 
-/// Opens lent shares: the job's words, and the set of wrong holders.
+/// Opens lent shares: the job's words, and the set of wrong holders, those of shares with a wide word among them.
 pub fn open(p: Params, holders: &[u64], words: &[u64], e: u64, out: &mut [u64], wrong: &mut [u64]) -> Result<(), Refusal> {
     p.check()?;
     demand(holders.len().checked_mul(p.d) == Some(words.len()) && out.len() == p.d && wrong.len() == 1, Refusal::Length)?;
@@ -68,7 +68,6 @@ pub fn open(p: Params, holders: &[u64], words: &[u64], e: u64, out: &mut [u64], 
         demand(last < h && h <= p.n as u64, Refusal::Holder)?;
         last = h;
     }
-    demand(in_width(p.k, words), Refusal::WideWord)?;
     for_d!(p.d, open_lent::<D, { 1 << D }>(p, holders, words, e, out, wrong))
 }
 
@@ -84,18 +83,20 @@ fn open_lent<const D: usize, const N: usize>(
     for (&h, words) in holders.iter().zip(words.as_chunks::<D>().0) {
         shares.push(h, *words);
     }
-    open_shares(p, shares, e, out, wrong)
+    open_shares(p, shares, in_width(p.k, words), e, out, wrong)
 }
 
+/// Opens shares, of which `narrow` tells that no word is wide.
 pub(crate) fn open_shares<const D: usize, const N: usize>(
     p: Params,
     mut shares: Shares<D, N>,
+    narrow: bool,
     e: u64,
     out: &mut [u64],
     wrong: &mut [u64],
 ) -> Result<(), Refusal> {
     demand(shares.len() > p.t && e <= ((shares.len() - p.t - 1) / 2) as u64, Refusal::TooFewShares)?;
-    let (secret, set) = decode(p.k, p.t, &mut shares, e as u32).ok_or(Refusal::NoCodeword)?;
+    let (secret, set) = decode(p.k, p.t, &mut shares, narrow, e as u32).ok_or(Refusal::NoCodeword)?;
     out.copy_from_slice(&secret.map(|w| w & mask(p.k)));
     wrong[0] = set;
     Ok(())

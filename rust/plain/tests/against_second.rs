@@ -44,6 +44,15 @@ impl Random {
         }
         shares
     }
+
+    /// A bit above the width, if there is one: 0 for k 64.
+    fn high_bit(&mut self, k: u64) -> u64 {
+        if k == 64 {
+            0
+        } else {
+            1 << (k as usize + self.below(64 - k as usize))
+        }
+    }
 }
 
 #[test]
@@ -52,8 +61,12 @@ fn openings() {
     for _ in 0..2000 {
         let p = random.params();
         let e = (p.n - p.t - 1) / 2;
-        let w = random.below(e + 2);
-        let shares = random.shares(p, w);
+        let (w, wide) = (random.below(e + 2), random.below(2) * random.below(e + 2));
+        let mut shares = random.shares(p, w);
+        for _ in 0..wide {
+            let at = random.below(p.n * p.d);
+            shares[at] |= random.high_bit(p.k);
+        }
         let holders: Vec<u64> = (1..=p.n as u64).collect();
         let (mut words, mut wrong) = ([vec![7; p.d], vec![7; p.d]], [[7], [7]]);
         let first = plain::open(p, &holders, &shares, e as u64, &mut words[0], &mut wrong[0]);
@@ -62,7 +75,7 @@ fn openings() {
     }
 }
 
-/// A bundle of all holders' files with three jobs, or with a random byte changed, or cut.
+/// A bundle of all holders' files with three jobs, some words of them wide, or with a random byte changed, or cut.
 fn bundle(random: &mut Random) -> (Params, Vec<u8>) {
     let p = random.params();
     let e = (p.n - p.t - 1) / 2;
@@ -74,6 +87,12 @@ fn bundle(random: &mut Random) -> (Params, Vec<u8>) {
         let mut file = vec![0; 23 + 3 * (14 + 8 * p.d)];
         second::write_file(p, holder + 1, 9, &[1, 2, 5], &words, &mut file).unwrap();
         bytes.extend(file);
+    }
+    for _ in 0..random.below(2) * random.below(e + 3) {
+        let (holder, place, word) = (random.below(p.n), random.below(3), random.below(p.d));
+        let at = 7 + holder * (23 + 3 * (14 + 8 * p.d)) + 23 + place * (14 + 8 * p.d) + 14 + 8 * word;
+        let bits = random.high_bit(p.k).to_le_bytes();
+        bytes[at..at + 8].iter_mut().zip(bits).for_each(|(byte, bit)| *byte |= bit);
     }
     match random.below(4) {
         0 => bytes.truncate(random.below(bytes.len())),

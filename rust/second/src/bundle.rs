@@ -1,4 +1,4 @@
-//! Calls on a bundle. It is read whole first; then come 4 for a named holder, 2, 9, 3, 5, 6.
+//! Calls on a bundle. It is read whole first; then come 4 for a named holder, 2, 9, 3, 5, 6; opening one job has no 3.
 
 use crate::decode::Opened;
 use crate::files::{read_bundle, Bundle, File};

@@ -12,7 +12,8 @@ pub struct Opened {
     pub wrong: u64,
 }
 
-/// At least t + 1 + 2 e shares of different holders, in width.
+/// At least t + 1 + 2 e shares of different holders, with any words. Those of a share are compared with a value's as they stand, so that
+/// a share with a wide word differs from every polynomial.
 pub fn decode(ring: &Ring, t: usize, e: usize, shares: &[Share]) -> Option<Opened> {
     if few_subsets(shares.len(), t + 1) {
         by_subsets(ring, t, e, shares)
@@ -33,15 +34,20 @@ fn few_subsets(m: usize, size: usize) -> bool {
     true
 }
 
+/// What a polynomial opens to, if it differs from e shares or fewer.
+fn within(ring: &Ring, p: &[Element], e: usize, shares: &[Share]) -> Option<Opened> {
+    let wrong = shares.iter().filter(|s| ring.value(p, &ring.point(s.holder)) != s.words).fold(0, |set, s| set | s.bit());
+    (wrong.count_ones() as usize <= e).then_some(Opened { words: p[0], wrong })
+}
+
 /// A polynomial that differs from e of t + 1 + 2 e shares goes through t + 1 of them, so it is met.
 pub fn by_subsets(ring: &Ring, t: usize, e: usize, shares: &[Share]) -> Option<Opened> {
     let mut chosen: Vec<usize> = (0..=t).collect();
     loop {
         let through: Vec<Share> = chosen.iter().map(|i| shares[*i]).collect();
-        let p = lagrange(ring, &through);
-        let wrong = shares.iter().filter(|s| ring.value(&p, &ring.point(s.holder)) != s.words).fold(0, |set, s| set | s.bit());
-        if wrong.count_ones() as usize <= e {
-            return Some(Opened { words: p[0], wrong });
+        let opened = within(ring, &lagrange(ring, &through), e, shares);
+        if opened.is_some() {
+            return opened;
         }
         if !next_subset(&mut chosen, shares.len()) {
             return None;
@@ -62,7 +68,7 @@ fn next_subset(chosen: &mut [usize], m: usize) -> bool {
     true
 }
 
-/// The polynomial through the shares, by Lagrange's formula.
+/// The polynomial through the shares, modulo 2^k, by Lagrange's formula.
 fn lagrange(ring: &Ring, shares: &[Share]) -> Vec<Element> {
     let mut nodal = vec![ZERO; shares.len() + 1];
     nodal[0][0] = 1;
@@ -96,11 +102,12 @@ fn divide_by_root(ring: &Ring, p: &[Element], x: &Element) -> Vec<Element> {
     quotient
 }
 
-/// At each level the field decoder treats the lowest bits of what remains; shares wrong there are dropped and the allowance falls.
+/// At each level the field decoder treats the lowest bits of what remains; shares wrong there are dropped and the allowance falls. The
+/// k levels leave the one polynomial that may differ from e shares or fewer, which is then compared with all of them.
 pub fn by_levels(ring: &Ring, t: usize, e: usize, shares: &[Share]) -> Option<Opened> {
     let field = Field::new(ring.d);
     let (mut left, mut allowance) = (shares.to_vec(), e);
-    let mut opened = Opened { words: ZERO, wrong: 0 };
+    let mut p = vec![ZERO; t + 1];
     for level in 0..ring.k {
         let xs: Vec<u8> = left.iter().map(|s| s.holder as u8).collect();
         let ys: Vec<u8> = left.iter().map(lowest_bits).collect();
@@ -108,10 +115,9 @@ pub fn by_levels(ring: &Ring, t: usize, e: usize, shares: &[Share]) -> Option<Op
         let right: Vec<bool> = xs.iter().zip(&ys).map(|(x, y)| field.value(&f, *x) == *y).collect();
         let dropped = left.iter().zip(&right).filter(|(_, right)| !**right).fold(0, |set, (s, _)| set | s.bit());
         allowance = allowance.checked_sub(dropped.count_ones() as usize)?;
-        opened.wrong |= dropped;
         let lifted: Vec<Element> = f.iter().map(|c| ring.point((*c).into())).collect();
-        if let Some(free) = lifted.first() {
-            (0..ring.d).for_each(|j| opened.words[j] |= free[j] << level);
+        for (c, bits) in p.iter_mut().zip(&lifted) {
+            (0..ring.d).for_each(|j| c[j] |= bits[j] << level);
         }
         // What remains of a share is known to one bit fewer at each level; the bits above are never looked at.
         left.retain(|s| dropped & s.bit() == 0);
@@ -120,7 +126,7 @@ pub fn by_levels(ring: &Ring, t: usize, e: usize, shares: &[Share]) -> Option<Op
             s.words = ring.sub(&s.words, &value).map(|w| w >> 1);
         }
     }
-    Some(opened)
+    within(ring, &p, e, shares)
 }
 
 fn lowest_bits(share: &Share) -> u8 {
@@ -134,24 +140,25 @@ mod tests {
 
     /// Refusal 6 read as it stands: the first of all polynomials of degree at most t that differs from e shares or fewer.
     fn by_definition(ring: &Ring, t: usize, e: usize, shares: &[Share]) -> Option<Opened> {
-        let elements: Vec<Element> = (0..16).map(|bits| share(1, &[bits & 3, bits >> 2]).words).collect();
-        (0..16usize.pow(t as u32 + 1)).find_map(|number| {
-            let p: Vec<Element> = (0..=t).map(|i| elements[number >> (4 * i) & 15]).collect();
-            let wrong = shares.iter().filter(|s| ring.value(&p, &ring.point(s.holder)) != s.words).fold(0, |set, s| set | s.bit());
-            (wrong.count_ones() as usize <= e).then_some(Opened { words: p[0], wrong })
+        let words = 0..1u64 << ring.k;
+        let elements: Vec<Element> = words.clone().flat_map(|a| words.clone().map(move |b| share(1, &[a, b]).words)).collect();
+        (0..elements.len().pow(t as u32 + 1)).find_map(|number| {
+            let p: Vec<Element> = (0..=t).map(|i| elements[number / elements.len().pow(i as u32) % elements.len()]).collect();
+            within(ring, &p, e, shares)
         })
     }
 
-    /// Both methods and the definition on all shares of a small ring: k 2, d 2, three holders, every e that may be asked.
+    /// Both methods and the definition on all shares of two bits a word, which are in width for k 2 and may be wide for k 1: d 2, three
+    /// holders, every e that may be asked.
     #[test]
     fn the_methods_agree_with_the_definition() {
-        let ring = Ring::new(2, 2);
-        for number in 0..1u64 << 12 {
+        for (number, k) in (0..1u64 << 12).flat_map(|number| [(number, 1), (number, 2)]) {
+            let ring = Ring::new(k, 2);
             let shares: Vec<Share> = (0..3).map(|i| share(i + 1, &[number >> (4 * i) & 3, number >> (4 * i + 2) & 3])).collect();
             for (t, e) in [(0, 0), (0, 1), (1, 0), (2, 0)] {
                 let opened = by_subsets(&ring, t, e, &shares);
                 assert_eq!(opened, by_levels(&ring, t, e, &shares));
-                assert!(t == 2 || opened == by_definition(&ring, t, e, &shares));
+                assert!(t == 2 && k == 2 || opened == by_definition(&ring, t, e, &shares));
             }
         }
     }

@@ -66,6 +66,18 @@ fn opening_m5_to_m10() {
     assert_eq!(opening(constant, 0, &[]), refused(Refusal::TooFewShares));
 }
 
+/// Paper 02, K1: a share with a wide word is present and wrong; 5 counts it, and so does 6.
+#[test]
+fn wide_shares_k1() {
+    let (constant, right, wide) = (Params { t: 0, ..SMALL }, [5, 2], [5 + 8, 2]);
+    assert_eq!(opening(constant, 1, &[(1, right), (2, right), (3, wide)]), opens(right, 4));
+    assert_eq!(opening(constant, 1, &[(1, [8, u64::MAX]), (2, right), (3, right)]), opens(right, 1));
+    assert_eq!(opening(constant, 0, &[(1, right), (2, right), (3, wide)]), refused(Refusal::NoCodeword));
+    assert_eq!(opening(constant, 1, &[(1, wide), (2, right), (3, wide)]), refused(Refusal::NoCodeword));
+    assert_eq!(opening(constant, 1, &[(1, wide), (2, right), (3, [1, 2])]), refused(Refusal::NoCodeword));
+    assert_eq!(opening(constant, 1, &[(1, right), (2, wide)]), refused(Refusal::TooFewShares));
+}
+
 #[test]
 fn signed_m12() {
     assert_eq!([signed_reading(8, 127), signed_reading(8, 128), signed_reading(1, 1)], [127, -128, -1]);
@@ -95,6 +107,21 @@ fn the_example_of_the_listing() {
     }
     assert_eq!(String::from_utf8(text).unwrap(), "10 open 3 -3,2\n11 6 - -\n");
     assert_eq!(list_line(&bundle, 2, &mut [0; LINE], &mut [0]), Err(Refusal::OutOfRange));
+}
+
+/// The example with job 10 of holder 3 wide: its place opens, a run of that place does not.
+#[test]
+fn a_wide_word_in_a_place_and_in_a_run() {
+    let (mut bundle, mut out, mut wrong) = (example_bundle(), [77; 2], [88]);
+    bundle[173 + 23 + 14 + 7] = 1;
+    open_place(&bundle, 0, &mut out, &mut wrong).unwrap();
+    assert_eq!((out, wrong), ([5, 2], [4]));
+    for run in [(0, 1), (0, 2)] {
+        assert_eq!(open_run(&bundle, run.0, run.1, &mut out, &mut wrong), Err(Refusal::WideWord));
+    }
+    assert_eq!(open_run(&bundle, 1, 1, &mut out, &mut wrong), Ok(()));
+    assert_eq!(total(&bundle, 3, 0, 1, &mut out), Err(Refusal::WideWord));
+    assert_eq!(total(&bundle, 2, 0, 1, &mut out), Ok(()));
 }
 
 #[test]

@@ -1,6 +1,7 @@
-//! A second implementation of paper 01, written from the paper alone and by other methods than the library's: opening tries every
-//! set of t + 1 shares where there are few, and otherwise rises through the bits with Gao's decoder; the inverse is the solution of a
-//! linear system; bundles are parsed into values first. It is made to be compared with the library, so it prefers plain to fast.
+//! A second implementation of paper 01 and of K1 of paper 02, written from the papers alone and by other methods than the library's:
+//! opening tries every set of t + 1 shares where there are few, and otherwise rises through the bits with Gao's decoder; the inverse is
+//! the solution of a linear system; bundles are parsed into values first. It is made to be compared with the library, so it prefers
+//! plain to fast.
 //!
 //! Every call writes its outputs only when it succeeds.
 

@@ -1,4 +1,4 @@
-//! Calls on lent words: dealing, opening, adding, multiplying, the inverse. The order of refusals is 1, 2, 4, 3, 5, 6.
+//! Calls on lent words: dealing, opening, adding, multiplying, the inverse. The order of refusals is 1, 2, 4, 3, 5, 6; opening has no 3.
 
 use crate::decode::{decode, Opened};
 use crate::ring::Element;
@@ -47,13 +47,11 @@ pub fn open(p: Params, holders: &[u64], words: &[u64], e: u64, out: &mut [u64], 
     Ok(())
 }
 
-/// The refusals 3, 5, 6 and the answer.
+/// The refusals 5, 6 and the answer, of shares with any words.
 pub(crate) fn open_shares(p: Params, e: u64, shares: &[Share]) -> Result<Opened, Refusal> {
-    let ring = p.ring();
-    demand(shares.iter().all(|s| ring.in_width(&s.words)), Refusal::WideWord)?;
     let needed = p.t as u128 + 1 + 2 * u128::from(e);
     demand(shares.len() as u128 >= needed, Refusal::TooFewShares)?;
-    decode(&ring, p.t, e as usize, shares).ok_or(Refusal::NoCodeword)
+    decode(&p.ring(), p.t, e as usize, shares).ok_or(Refusal::NoCodeword)
 }
 
 pub fn add(p: Params, a: &[u64], b: &[u64], out: &mut [u64]) -> Result<(), Refusal> {

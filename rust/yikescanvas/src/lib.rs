@@ -39,7 +39,7 @@ pub enum Refusal {
     Parameters,
     /// 2: a list or an output has not the length that the call needs.
     Length,
-    /// 3: a word that the call uses is 2^k or more.
+    /// 3: a word that the call uses is 2^k or more. Opening one job never gives it: there the share is wrong.
     WideWord,
     /// 4: a holder is not from 1 to n, holders do not strictly rise, or the holder named has no file.
     Holder,
@@ -163,7 +163,7 @@ pub fn deal(p: Params, job: &[u64], coefficients: &[u64], out: &mut [u64]) -> Re
 }
 
 /// Opens a job from the shares of `holders`, d words each, of which at most e are wrong: the job's words go to `out`, and the set of the
-/// holders whose shares are wrong comes back.
+/// holders whose shares are wrong comes back. A share with a word of 2^k or more is wrong.
 pub fn open_shares(p: Params, holders: &[u64], shares: &[u64], e: u64, out: &mut [u64]) -> Result<u64, Refusal> {
     let mut wrong = [0];
     told(unsafe {
@@ -347,7 +347,8 @@ pub fn files(bundle: &[u8]) -> Result<Vec<FilePart>, Refusal> {
     (0..describe(bundle)?.files).map(|index| file(bundle, index)).collect()
 }
 
-/// Opens the job at a place: its words go to `out`, and the set of the wrong holders comes back.
+/// Opens the job at a place: its words go to `out`, and the set of the wrong holders comes back, those of shares with a word of 2^k or more
+/// among them.
 pub fn open_place(bundle: &[u8], place: usize, out: &mut [u64]) -> Result<u64, Refusal> {
     let mut wrong = [0];
     told(unsafe {
@@ -361,7 +362,8 @@ pub fn total(bundle: &[u8], holder: usize, a: usize, b: usize, out: &mut [u64]) 
     told(unsafe { ffi::yikes_total(bundle.as_ptr(), bundle.len(), holder, a, b, out.as_mut_ptr(), out.len()) })
 }
 
-/// Opens the sum of the jobs at the places a to b - 1, as [`open_place`] does one job.
+/// Opens the sum of the jobs at the places a to b - 1, as [`open_place`] does one job. A word of 2^k or more in any file's share of one of them
+/// declines, also in a run of one place.
 pub fn open_run(bundle: &[u8], a: usize, b: usize, out: &mut [u64]) -> Result<u64, Refusal> {
     let mut wrong = [0];
     told(unsafe {

@@ -132,12 +132,26 @@ fn shares() {
     for wrong in [[0, 1, 2], [1, 2, 4], [1, 1, 3], [2, 1, 3], [1, 2, u64::MAX]] {
         declines(Refusal::Holder, 2, |o| open_shares(BOOK, &wrong, &[8; 6], 0, o));
     }
-    declines(Refusal::WideWord, 2, |o| open_shares(BOOK, &[1, 2, 3], &[0, 3, 4, 4, 7, 8], 1, o));
     for e in [1, 2, 1 << 63, u64::MAX] {
         declines(Refusal::TooFewShares, 2, |o| open_shares(BOOK, &[1, 2, 3], &shares, e, o));
+        declines(Refusal::TooFewShares, 2, |o| open_shares(BOOK, &[1, 2, 3], &[0, 3, 4, 4, 7, 8], e, o));
     }
     declines(Refusal::TooFewShares, 2, |o| open_shares(BOOK, &[], &[], 0, o));
     declines(Refusal::NoCodeword, 2, |o| open_shares(BOOK, &[1, 2, 3], &[0, 3, 4, 4, 3, 5], 0, o));
+}
+
+/// A share with a wide word is present, and wrong.
+#[test]
+fn wide_shares() {
+    let mut out = [0; 2];
+    assert_eq!(open_shares(FLAT, &[1, 2, 3], &[5, 2, 5 + 8, 2, 5, 2], 1, &mut out), Ok(2));
+    assert_eq!(out, [5, 2]);
+    assert_eq!(open_shares(FLAT, &[1, 2, 3], &[5, 2, 5, 2, 8, u64::MAX], 1, &mut out), Ok(4));
+    assert_eq!(out, [5, 2]);
+    declines(Refusal::NoCodeword, 2, |o| open_shares(FLAT, &[1, 2, 3], &[5, 2, 5 + 8, 2, 5, 2], 0, o));
+    declines(Refusal::NoCodeword, 2, |o| open_shares(FLAT, &[1, 2, 3], &[5, 2, 5 + 8, 2, 5 + 8, 2], 1, o));
+    declines(Refusal::NoCodeword, 2, |o| open_shares(FLAT, &[1, 2, 3], &[5, 2, 5 + 8, 2, 1, 2], 1, o));
+    declines(Refusal::TooFewShares, 2, |o| open_shares(FLAT, &[1, 2], &[5, 2, 5 + 8, 2], 1, o));
 }
 
 #[test]
@@ -339,11 +353,21 @@ fn bundles() {
     for n in [0, LINE - 1] {
         declines_bytes(Refusal::Length, n, |o| list_line(&bundle, 9, o));
     }
+    // holder 3's share of job 10 is right in its low bits, and wide
     let mut wide = bundle.clone();
-    wide[74] = 8;
-    declines(Refusal::WideWord, 2, |o| open_place(&wide, 1, o));
+    (wide[210], wide[217]) = (5, 128);
+    assert_eq!(open_place(&wide, 0, &mut out), Ok(4));
+    assert_eq!(out, [5, 2]);
+    assert_eq!(list_line(&wide, 0, &mut line), Ok(15));
+    assert_eq!(&line[..15], b"10 open 3 -3,2\n");
+    declines(Refusal::WideWord, 2, |o| open_run(&wide, 0, 1, o));
     declines(Refusal::WideWord, 2, |o| open_run(&wide, 0, 2, o));
-    declines(Refusal::WideWord, 2, |o| total(&wide, 1, 1, 2, o));
+    declines(Refusal::WideWord, 2, |o| total(&wide, 3, 0, 1, o));
+    assert_eq!(total(&wide, 1, 0, 2, &mut out), Ok(()));
+    wide[44] = 5 + 8;
+    declines(Refusal::NoCodeword, 2, |o| open_place(&wide, 0, o));
+    assert_eq!(list_line(&wide, 0, &mut line), Ok(9));
+    assert_eq!(&line[..9], b"10 6 - -\n");
     let mut few = bundle.clone();
     few[6] = 2;
     declines(Refusal::TooFewShares, 2, |o| open_place(&few, 0, o));
