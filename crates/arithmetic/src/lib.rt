@@ -1,5 +1,6 @@
 // The calls on lent elements: sum, product and inverse.
 ghost use mathlib.Core.Path.{_≡_};
+ghost use Prim.Native.Nat.{_≤_};
 ghost use lib.ListN.{length};
 ghost use Rattle.words.specs.Refusal.{kept};
 ghost use Rattle.galois.specs.Element.{sum, lower, product, inverse};
@@ -39,6 +40,30 @@ pub fn add(p: Params, a: &[u64], b: &[u64], out: &mut [u64]) -> u8
     0
 }
 
+// The product of two elements of d words, into a list of as many.
+fn store_product_by(k: u64, d: usize, a: &[u64], b: &[u64], out: &mut [u64])
+    requires { ⌜ ((1 ≤ k) × (k ≤ 64)) × ((2 ≤ d) × (d ≤ 6)) × (length (now a) ≡ d) × (length (now b) ≡ d) × (length (now out) ≡ d) ⌝ }
+    ensures { λ _. ⌜ now (out .exit) ≡ product k (lower d) (now (a .entry)) (now (b .entry)) ⌝ }
+{
+    let x = ring::load(d, a, 0);
+    let y = ring::load(d, b, 0);
+    ring::store(d, out, 0, ring::product(k, d, x, y));
+}
+
+// The same, with code for each d: one choice for loading, product and storing, so that no element has to stand in memory between them.
+fn store_product(k: u64, d: usize, a: &[u64], b: &[u64], out: &mut [u64])
+    requires { ⌜ ((1 ≤ k) × (k ≤ 64)) × ((2 ≤ d) × (d ≤ 6)) × (length (now a) ≡ d) × (length (now b) ≡ d) × (length (now out) ≡ d) ⌝ }
+    ensures { λ _. ⌜ now (out .exit) ≡ product k (lower d) (now (a .entry)) (now (b .entry)) ⌝ }
+{
+    match d {
+        2 => store_product_by(k, 2, a, b, out),
+        3 => store_product_by(k, 3, a, b, out),
+        4 => store_product_by(k, 4, a, b, out),
+        5 => store_product_by(k, 5, a, b, out),
+        _ => store_product_by(k, 6, a, b, out),
+    }
+}
+
 // The product of two lent elements.
 pub fn multiply(p: Params, a: &[u64], b: &[u64], out: &mut [u64]) -> u8
     ensures { λ r. ⌜ (r ≡ operandsFault p (now (a .entry)) (now (b .entry)) (length (now (out .entry))))
@@ -49,9 +74,7 @@ pub fn multiply(p: Params, a: &[u64], b: &[u64], out: &mut [u64]) -> u8
     if fault != 0 {
         return fault;
     }
-    let x = ring::load(p.d, a, 0);
-    let y = ring::load(p.d, b, 0);
-    ring::store(p.d, out, 0, ring::product(p.k, p.d, x, y));
+    store_product(p.k, p.d, a, b, out);
     0
 }
 

@@ -226,8 +226,8 @@ pub fn heading_at(bytes: &[u8], at: usize) -> Heading
     Heading {
         params,
         holder: byte_at(bytes, body + 4) as usize,
-        archive: number(bytes, body + 5, NUMBER_SIZE),
-        jobs: number(bytes, body + 5 + NUMBER_SIZE, 4) as usize,
+        archive: word_at(bytes, body + 5),
+        jobs: half_at(bytes, body + 5 + NUMBER_SIZE) as usize,
     }
 }
 

@@ -252,7 +252,8 @@ fn fermat64(d: usize, a: [u64; 6]) -> [u64; 6]
     }
 }
 
-// Newton's steps, each of which doubles the bits of the inverse that are right, from 1 to k at least; in words of 64 bits.
+// Newton's steps, each of which doubles the bits of the inverse that are right, from 1 to k at least; in words of 64 bits. The first factor
+// of a product is used word by word and then done with: with q there, fewer words have to be kept on the stack.
 fn newton_by(k: u64, d: usize, a: [u64; 6], start: [u64; 6]) -> [u64; 6]
     requires { ⌜ (k ≤ 64) × ((2 ≤ d) × (d ≤ 6)) × (start ≡ held d start) ⌝ }
     ensures { λ r. ⌜ ((n : ℕ) × ((k ≤ 2 ^ n) × (r ≡ held d (newtons 64 d (take d a) (take d start) n)))) ⌝ }
@@ -261,7 +262,7 @@ fn newton_by(k: u64, d: usize, a: [u64; 6], start: [u64; 6]) -> [u64; 6]
     let mut w = 1;
     while w < k {
         let q = difference(64, [2, 0, 0, 0, 0, 0], product64(d, a, y));
-        let z = product64(d, y, q);
+        let z = product64(d, q, y);
         y = z;
         w += w;
     }

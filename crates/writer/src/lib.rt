@@ -135,12 +135,8 @@ fn put_jobs(out: &mut [u8], at: usize, h: Heading, numbers: &[u64], words: &[u64
     let d = h.params.d;
     let size = records::LENGTH_SIZE + records::job_length(h);
     let mut p: usize = 0;
-    let mut here = at;
-    let mut from: usize = 0;
     while p < numbers.len() {
-        put_job(out, here, h, numbers[p], words, from);
-        here += size;
-        from += d;
+        put_job(out, at + p * size, h, numbers[p], words, p * d);
         p += 1;
     }
 }

@@ -1,14 +1,11 @@
--- `arithmetic::multiply` meets its contract: a fault leaves the output, and otherwise the product is stored. Assumes nothing.
+-- `arithmetic::multiply` meets its contract: a fault leaves the output, and otherwise it holds the product. Assumes nothing.
 use native.Mathlib.Omega.{arith}
 use mathlib.Core.Path.{_≡_, sym, _∙_}
-use lib.ListN.{length}
-use Rattle.arithmetic.proofs.Calls.{Clear, clear, declined, wrote}
 use Prim.Native.Nat.{ℕ}
+use lib.ListN.{length}
+use Rattle.words.proofs.Refusal.{kept-none}
 use Rattle.arithmetic.specs.Calls.{operandsFault}
-use Rattle.galois.specs.Element.{product, lower, held}
-use Rattle.galois.proofs.Table.{length-lower}
-use Rattle.galois.proofs.Lists.{length-product}
-use Rattle.galois.proofs.Held.{held-take}
+use Rattle.arithmetic.proofs.Calls.{Clear, clear, declined}
 use borrow.Author.Needs.{needs}
 use Rattle.arithmetic.proofs.multiply.Statement.{statement}
 use Rattle.arithmetic.proofs.multiply.Tie as tie
@@ -34,29 +31,9 @@ multiply-spec =
     (λ c.
     let s = c .before .before .before .before .before in
     declined (F s) (s .args .out .now) _ _ (c .before .operands-fault .ensures) (c .if1 .taken))
-    (λ c κs. let k = known c in ((k .range .d-low, k .range .d-high), omega arith))
-    (λ c κs. let k = known (c .before) in ((k .range .d-low, k .range .d-high), omega arith))
-    (λ c κs.
-    let k = known (c .before .before .before) in
-    ((k .range .k-low, k .range .k-high), (k .range .d-low, k .range .d-high)))
-    (λ c κs. let k = known (c .before .before .before .before) in ((k .range .d-low, k .range .d-high), omega arith))
+    (λ c κs. let k = known (c .before) in ((k .range .k-low, k .range .k-high), (k .range .d-low, k .range .d-high), omega arith, omega arith, omega arith))
     (λ c. search needs)
     (λ c.
-    let e = c .before .before .before .before .before .before .before in
-    let s = S e in
-    let k = known e in
-    let d = s .args .p .d in
-    let x = s .args .a .now in
-    let y = s .args .b .now in
-    let w = product (s .args .p .k) (lower d) x y in
-    let hl : length (lower d) ≡ d = length-lower d (k .range .d-low) (k .range .d-high) in
-    let v : c .before .before .before .product .result ≡ held d w =
-    c .before .before .before .product .ensures
-    ∙ rw (
-      c .before .before .before .before .before .before .load .ensures,
-      c .before .before .before .before .before .load2 .ensures,
-      held-take d x (k .a-length),
-      held-take d y (k .b-length),
-    ) in
-    let hw : length w ≡ d = length-product (s .args .p .k) (lower d) x y (k .b-length ∙ sym hl) ∙ hl in
-    wrote (F s) (s .args .out .now) w d _ _ (no-fault e) (k .out-length) hw v (c .before .before .store .ensures)))
+    let e = c .before .before .before .before in
+    let z = no-fault e in
+    (sym z, c .before .before .store-product .ensures ∙ sym (kept-none (F (S e)) _ _ z))))

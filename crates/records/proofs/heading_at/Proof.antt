@@ -41,22 +41,22 @@ byte-at-requires-5 : tie.Need-byte-at-requires-5
 unfolding recordSize headLen
 byte-at-requires-5 c κs = omega arith
 
-add-number : tie.Need-add-number
-add-number c = search needs
+add-word-at : tie.Need-add-word-at
+add-word-at c = search needs
 
-number-requires : tie.Need-number-requires
+word-at-requires : tie.Need-word-at-requires
 unfolding recordSize headLen
-number-requires c κs = omega arith
+word-at-requires c κs = omega arith
 
-add-number-2 : tie.Need-add-number-2
-add-number-2 c = search needs
+add-half-at : tie.Need-add-half-at
+add-half-at c = search needs
 
-add-number-3 : tie.Need-add-number-3
-add-number-3 c = search needs
+add-half-at-2 : tie.Need-add-half-at-2
+add-half-at-2 c = search needs
 
-number-requires-2 : tie.Need-number-requires-2
+half-at-requires : tie.Need-half-at-requires
 unfolding recordSize headLen
-number-requires-2 c κs = omega arith
+half-at-requires c κs = omega arith
 
 returns : tie.Need-returns
 unfolding headingOf
@@ -69,8 +69,8 @@ returns c =
         t = c .before .before .before .byte-at4 .ensures i;
       };
       holder = c .before .before .byte-at5 .ensures i;
-      archive = c .before .number .ensures i;
-      jobs = c .number2 .ensures i;
+      archive = c .before .word-at .ensures i;
+      jobs = c .half-at .ensures i;
     }
 
 pub heading-at-spec : {M : Type 1} → statement M
@@ -87,9 +87,9 @@ heading-at-spec =
     byte-at-requires-4
     add-byte-at-4
     byte-at-requires-5
-    add-number
-    number-requires
-    add-number-2
-    add-number-3
-    number-requires-2
+    add-word-at
+    word-at-requires
+    add-half-at
+    add-half-at-2
+    half-at-requires
     returns)

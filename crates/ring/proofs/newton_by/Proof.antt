@@ -11,7 +11,7 @@ use Rattle.words.specs.Word.{subW}
 use Rattle.galois.specs.Element.{Element, product, lower, difference, held}
 use Rattle.galois.specs.Inversion.{newton, newtons, twoE}
 use Rattle.galois.proofs.Table.{length-lower}
-use Rattle.galois.proofs.Lists.{length-product, length-zip}
+use Rattle.galois.proofs.Lists.{length-product, length-zip, product-comm}
 use Rattle.galois.proofs.Inverse.{length-two, length-newtons}
 use Rattle.galois.proofs.Held.{held-take, held-same, const-held, difference-held}
 use Rattle.ring.proofs.newton_by.Statement.{statement}
@@ -64,7 +64,7 @@ loop-again c =
     ∙ held-take d q hq in
     let r : l .loop .w ≡ 2 ^ n = l .loop .inv .1 .1 .0 in
     let t : l .loop .w + l .loop .w ≡ 2 ^ suc n = omega (arith, pow-suc 2 n, r) in
-    (omega arith, (suc n, (t, c .product642 .ensures ∙ rw (ex, eq))))
+    (omega arith, (suc n, (t, c .product642 .ensures ∙ rw (ex, eq) (ap (held d) (product-comm 64 d (lower d) hl q x hq hx)))))
 
 returns : tie.Need-returns Inv-loop μ-loop
 returns c =

@@ -20,54 +20,50 @@ use Rattle.writer.proofs.Calls.{jobs-count, jobs-more, job-words}
 use Rattle.writer.proofs.put_jobs.Statement.{statement}
 use Rattle.writer.proofs.put_jobs.Tie as tie
 
--- where the loop stands at place p: what is written, and where the next job and its words are
-record At (out₀ : List ℕ) (at : ℕ) (h : Heading) (ns ws out : List ℕ) (p here from : ℕ) : Type 0 where
+-- where the loop stands at place p: what is written
+record At (out₀ : List ℕ) (at : ℕ) (h : Heading) (ns ws out : List ℕ) (p : ℕ) : Type 0 where
   low : p ≤ length ns
-  here-is : here ≡ at + p * jobSize h
-  from-is : from ≡ p * h .params .d
   same : length out ≡ length out₀
   size : length (jobsBytes h (take p (jobsOf (h .params .d) ns ws))) ≡ p * jobSize h
   bytes : Written out₀ at (jobsBytes h (take p (jobsOf (h .params .d) ns ws))) out
 
-start : (out₀ : List ℕ) (at : ℕ) (h : Heading) (ns ws : List ℕ) → at ≤ length out₀ → At out₀ at h ns ws out₀ 0 at 0
+start : (out₀ : List ℕ) (at : ℕ) (h : Heading) (ns ws : List ℕ) → at ≤ length out₀ → At out₀ at h ns ws out₀ 0
 unfolding jobsBytes
-start out₀ at h ns ws l =
-    record { low = omega arith; here-is = omega arith; from-is = omega arith; same = refl; size = omega arith; bytes = written-none out₀ at l }
+start out₀ at h ns ws l = record { low = omega arith; same = refl; size = omega arith; bytes = written-none out₀ at l }
 
-module _ (out₀ : List ℕ) (at : ℕ) (h : Heading) (ns ws out : List ℕ) (p here from : ℕ) (j : At out₀ at h ns ws out p here from)
+module _ (out₀ : List ℕ) (at : ℕ) (h : Heading) (ns ws out : List ℕ) (p : ℕ) (j : At out₀ at h ns ws out p)
     (fits : at + length ns * jobSize h ≤ length out₀) (words : length ns * h .params .d ≤ length ws) (l : p < length ns) where
   -- the job's bytes and its words are there
-  room : here + jobSize h ≤ length out₀
-  room = omega (arith, j .here-is, mul-le-mul-right (jobSize h) l)
+  room : at + p * jobSize h + jobSize h ≤ length out₀
+  room = omega (arith, mul-le-mul-right (jobSize h) l)
 
-  source : from + h .params .d ≤ length ws
-  source = omega (arith, j .from-is, mul-le-mul-right (h .params .d) l)
+  source : p * h .params .d + h .params .d ≤ length ws
+  source = omega (arith, mul-le-mul-right (h .params .d) l)
 
-  more : (o : List ℕ) → o ≡ take here out ++ (jobBytes h (jobOf (getD ns p 0) (take (h .params .d) (drop from ws))) ++ drop (here + jobSize h) out) →
-      At out₀ at h ns ws o (p + 1) (here + jobSize h) (from + h .params .d)
-  more o e =
+  more : (o : List ℕ) (here : ℕ) → here ≡ at + p * jobSize h →
+      o ≡ take here out ++ (jobBytes h (jobOf (getD ns p 0) (take (h .params .d) (drop (p * h .params .d) ws))) ++ drop (here + jobSize h) out) →
+      At out₀ at h ns ws o (p + 1)
+  more o here f e =
       let d = h .params .d in
       let js = jobsOf d ns ws in
-      let b = jobBytes h (jobOf (getD ns p 0) (take d (drop from ws))) in
-      let n : length b ≡ jobSize h = job-length h (jobOf (getD ns p 0) (take d (drop from ws))) (job-words d ws from source) in
-      let c : jobsBytes h (take (p + 1) js) ≡ jobsBytes h (take p js) ++ b =
-      jobs-more h d ns ws p l ∙ ap (λ (m : ℕ). jobsBytes h (take p js) ++ jobBytes h (jobOf (getD ns p 0) (take d (drop m ws)))) (sym (j .from-is)) in
+      let w = take d (drop (p * d) ws) in
+      let b = jobBytes h (jobOf (getD ns p 0) w) in
+      let n : length b ≡ jobSize h = job-length h (jobOf (getD ns p 0) w) (job-words d ws (p * d) source) in
+      let c : jobsBytes h (take (p + 1) js) ≡ jobsBytes h (take p js) ++ b = jobs-more h d ns ws p l in
       let q : Written out₀ at (jobsBytes h (take p js) ++ b) o =
-      written-more out₀ at (jobsBytes h (take p js)) out b o here (jobSize h) (j .bytes) (omega (arith, j .here-is, j .size)) (sym n) room e in
+      written-more out₀ at (jobsBytes h (take p js)) out b o here (jobSize h) (j .bytes) (omega (arith, j .size)) (sym n) (omega (arith, room)) e in
       record {
         low = omega arith;
-        here-is = omega (arith, j .here-is);
-        from-is = omega (arith, j .from-is);
         same = written-length out₀ at (jobsBytes h (take p js) ++ b) o q;
         size = ap length c ∙ length-append (jobsBytes h (take p js)) b ∙ omega (arith, j .size);
         bytes = rw c q;
       }
 
 abbrev Inv-loop : tie.InvT-loop
-Inv-loop out₀ at h numbers words d size p₀ here₀ from₀ out p here from = At out₀ at h numbers words out p here from
+Inv-loop out₀ at h numbers words d size p₀ out p = At out₀ at h numbers words out p
 
 abbrev μ-loop : tie.MeasureT-loop
-μ-loop out₀ at h numbers words d size p₀ here₀ from₀ out p here from = length numbers - p
+μ-loop out₀ at h numbers words d size p₀ out p = length numbers - p
 
 job-length-requires : tie.Need-job-length-requires Inv-loop μ-loop
 job-length-requires c κs = c .before .before .before .pre .0
@@ -84,46 +80,40 @@ loop-holds c =
     let a = c .before .before .before .before .args in
     start (now (a .out)) (a .at) (a .h) (now (a .numbers)) (now (a .words)) (omega (arith, c .before .before .before .before .pre))
 
+-- the job and its words are within the lists
+ahead : (c : tie.After-put-job-arg Inv-loop μ-loop) → let a = c .before .before .before .before .before .before .before .args in
+    let p = c .before .before .loop .p in
+    (a .at + p * (4 + c .before .before .before .job-length .result) + jobSize (a .h) ≤ length (now (a .out))) ×
+    (p * a .h .params .d + a .h .params .d ≤ length (now (a .words)))
+ahead c =
+    let a = c .before .before .before .before .before .before .before .args in
+    let l = c .before .before .loop in
+    let f = c .before .before .before .before .before .before .before .pre in
+    let t = c .before .loop-test .taken in
+    rw (size-is (c .before .before .before)) (
+      room (now (a .out)) (a .at) (a .h) (now (a .numbers)) (now (a .words)) (l .out) (l .p) (l .inv) (f .1) (f .2) t,
+      source (now (a .out)) (a .at) (a .h) (now (a .numbers)) (now (a .words)) (l .out) (l .p) (l .inv) (f .1) (f .2) t,
+    )
+
 mul-put-job : tie.Need-mul-put-job Inv-loop μ-loop
-mul-put-job c = search needs
+mul-put-job c = omega (arith, ahead c .0, c .before .before .before .before .before .before .before .good)
+
+add-put-job : tie.Need-add-put-job Inv-loop μ-loop
+add-put-job c = omega (arith, ahead c .0, c .before .before .before .before .before .before .before .good)
+
+mul-put-job-2 : tie.Need-mul-put-job-2 Inv-loop μ-loop
+mul-put-job-2 c = search needs
 
 shared-slice-read-put-job : tie.Need-shared-slice-read-put-job Inv-loop μ-loop
 shared-slice-read-put-job c = search needs
 
+mul-put-job-3 : tie.Need-mul-put-job-3 Inv-loop μ-loop
+mul-put-job-3 c = omega (arith, ahead (c .before) .1, c .before .before .before .before .before .before .before .before .good)
+
 put-job-requires : tie.Need-put-job-requires Inv-loop μ-loop
 put-job-requires c κs =
-    let a = c .before .before .before .before .before .before .before .before .args in
-    let l = c .before .before .before .loop in
-    let f = c .before .before .before .before .before .before .before .before .pre in
-    let t = c .before .before .loop-test .taken in
-    let r = room (now (a .out)) (a .at) (a .h) (now (a .numbers)) (now (a .words)) (l .out) (l .p) (l .here) (l .from) (l .inv) (f .1) (f .2) t in
-    let s = source (now (a .out)) (a .at) (a .h) (now (a .numbers)) (now (a .words)) (l .out) (l .p) (l .here) (l .from) (l .inv) (f .1) (f .2) t in
-    (f .0, omega (arith, r, l .inv .same), s)
-
--- the next positions are within the lists
-ahead : (c : tie.After-slice-known2 Inv-loop μ-loop) → let a =
-    c .before .before .before .before .before .before .before .before .before .before .before .args in
-    (c .before .before .before .before .before .before .loop .here + jobSize (a .h) ≤ length (now (a .out))) ×
-    (c .before .before .before .before .before .before .loop .from + a .h .params .d ≤ length (now (a .words)))
-ahead c =
-    let a = c .before .before .before .before .before .before .before .before .before .before .before .args in
-    let l = c .before .before .before .before .before .before .loop in
-    let f = c .before .before .before .before .before .before .before .before .before .before .before .pre in
-    let t = c .before .before .before .before .before .loop-test .taken in (
-      room (now (a .out)) (a .at) (a .h) (now (a .numbers)) (now (a .words)) (l .out) (l .p) (l .here) (l .from) (l .inv) (f .1) (f .2) t,
-      source (now (a .out)) (a .at) (a .h) (now (a .numbers)) (now (a .words)) (l .out) (l .p) (l .here) (l .from) (l .inv) (f .1) (f .2) t,
-    )
-
-add-here : tie.Need-add-here Inv-loop μ-loop
-add-here c = omega (
-  arith,
-  ahead c .0,
-  size-is (c .before .before .before .before .before .before .before),
-  c .before .before .before .before .before .before .before .before .before .before .before .good,
-)
-
-add-from : tie.Need-add-from Inv-loop μ-loop
-add-from c = omega (arith, ahead c .1, c .before .before .before .before .before .before .before .before .before .before .before .good)
+    let h = ahead (c .before) in
+    (c .before .before .before .before .before .before .before .before .pre .0, omega (arith, h .0, c .before .before .before .loop .inv .same), h .1)
 
 add-p : tie.Need-add-p Inv-loop μ-loop
 add-p c = search needs
@@ -136,9 +126,9 @@ loop-again c =
     let a = c .before .before .before .before .before .before .before .before .before .before .before .args in
     let l = c .before .before .before .before .before .before .loop in
     let f = c .before .before .before .before .before .before .before .before .before .before .before .pre in
-    rw (size-is (c .before .before .before .before .before .before .before))
-    (more (now (a .out)) (a .at) (a .h) (now (a .numbers)) (now (a .words)) (l .out) (l .p) (l .here) (l .from) (l .inv) (f .1) (f .2)
-    (c .before .before .before .before .before .loop-test .taken) (c .before .before .put-job .last .0) (c .before .before .put-job .ensures))
+    more (now (a .out)) (a .at) (a .h) (now (a .numbers)) (now (a .words)) (l .out) (l .p) (l .inv) (f .1) (f .2)
+    (c .before .before .before .before .before .loop-test .taken) (c .before .before .put-job .last .0) _
+    (ap (λ (n : ℕ). a .at + l .p * n) (size-is (c .before .before .before .before .before .before .before))) (c .before .before .put-job .ensures)
 
 same-length : tie.Need-same-length Inv-loop μ-loop
 same-length c = c .before .loop .inv .same
@@ -156,5 +146,20 @@ returns c =
 pub put-jobs-spec : {M : Type 1} → statement M
 put-jobs-spec =
     tie.close
-    (tie.spec Inv-loop μ-loop job-length-requires add-size loop-holds mul-put-job shared-slice-read-put-job put-job-requires add-here add-from
-    add-p loop-less loop-again same-length returns)
+    (tie.spec
+    Inv-loop
+    μ-loop
+    job-length-requires
+    add-size
+    loop-holds
+    mul-put-job
+    add-put-job
+    mul-put-job-2
+    shared-slice-read-put-job
+    mul-put-job-3
+    put-job-requires
+    add-p
+    loop-less
+    loop-again
+    same-length
+    returns)
