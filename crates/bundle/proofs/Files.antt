@@ -1,24 +1,25 @@
 -- Laws of a run of jobs, of a file, and of files one after another: where each stands, and the first fault. Assumes nothing.
-use mathlib.Core.Path.{_≡_, refl, sym, _∙_}
+use mathlib.Core.Path.{_≡_, refl, sym, ap₂, _∙_}
 use Prim.Native.Nat.{ℕ, zero, suc, _+_, _*_, _≤_, _<_}
 use native.Mathlib.Nat.{mul-le-mul-left, mul-le-mul-right, div-eq-of-eq-mul-left}
 use native.Mathlib.Omega.{arith}
 use native.Mathlib.Numerals.{add-one}
 use native.Mathlib.Decide.{decLe}
 use mathlib.Core.List.{List}
-use mathlib.Core.Bool.{true, false}
+use mathlib.Core.Bool.{Bool, true, false}
 use lib.ListN.{length}
 use lib.Dec.{ltb, eqb, lit<}
-use borrow.Author.Tests.{lt-ltb, le-ltb}
+use borrow.Author.Tests.{lt-ltb, le-ltb, eq-eqb, ne-eqb}
 use Rattle.words.specs.Refusal.{unless, firstOf}
-use Rattle.words.proofs.Refusal.{pass, stop, first-none, first-some, first-left, first-right, firstOf-more, firstOf-stop, firstOf-each, firstOf-zero}
-use Rattle.records.specs.Layout.{recordSize, headSize, jobLen, fileSize, orderKind, orderLen, orderSize}
+use Rattle.words.proofs.Refusal.{pass, stop, unless-yes, unless-no, first-none, first-some, first-left, first-right, firstOf-more, firstOf-stop, firstOf-each, firstOf-zero}
+use Rattle.records.specs.Layout.{recordSize, headKind, headLen, headSize, jobLen, fileSize, orderKind, orderLen, orderSize}
 use Rattle.records.specs.Record.{framed, headingOf}
 use Rattle.bundle.specs.Bundle.{numOf, headingFault, jobFaultAt, prevNum, jobFault, fileFaultAt, fileFault, placeAt, prevHolder, filesIn}
 use Rattle.bundle.specs.Bundle.{faultOfFile, filesFault, bundleFault}
 use Rattle.bundle.specs.Acceptance.{FileOk}
 use Rattle.records.proofs.Lengths.{head-low, file-low}
-use Rattle.bundle.proofs.Headings.{same-file, heading-ok, job-ok}
+use Rattle.records.proofs.Record.{framed-frame}
+use Rattle.bundle.proofs.Headings.{same-file, heading-7, heading-ok, job-ok}
 
 -- ---- a run of jobs
 
@@ -125,6 +126,16 @@ module _ (bs : List ℕ) (start : ℕ) where
   place-next f g h = omega (arith, mul-le-mul-right (fileSize (headingOf bs start)) h)
 
 module _ (bs : List ℕ) (start f at prev : ℕ) (j : FilesAt bs start f at prev) where
+  -- bytes that are passed are a file's
+  pub files-passed : start < at → 1 ≤ f
+  unfolding placeAt
+  files-passed h =
+      elim (decLe 1 f) [
+        | yes m ↦ m
+        | no m ↦ (let z : f ≡ 0 = omega arith in
+            absurd (omega (arith, h, rw z at (j .at-is))))
+      ]
+
   module _ (l : at < length bs) where
     pub files-here : faultOfFile bs start f ≡ fileFaultAt bs start prev at
     unfolding faultOfFile
@@ -184,3 +195,53 @@ module _ (bs : List ℕ) where
   pub bundle-files : framed bs orderKind orderLen 0 ≡ true → bundleFault bs ≡ filesFault bs orderSize
   unfolding bundleFault
   bundle-files o = pass (framed bs orderKind orderLen 0) 7 _ o
+
+-- ---- one file, as the only one that may stand
+
+module _ (bs : List ℕ) where
+  no-heading : length bs ≤ 0 → (b : Bool) → let h = headingOf bs 0 in framed bs (headKind h) (headLen h) 0 ≡ b → headingFault bs 0 0 0 ≡ 7
+  unfolding recordSize
+  no-heading z true e =
+      let h = headingOf bs 0 in
+      absurd (omega (arith, framed-frame bs (headKind h) (headLen h) 0 e .within))
+  no-heading z false e = heading-7 bs 0 0 0 e
+
+  pub one-empty : length bs ≤ 0 → fileFault bs ≡ 7
+  unfolding fileFaultAt
+  one-empty z =
+      let h = no-heading z _ refl in
+      let some : headingFault bs 0 0 0 ≡ 0 → ⊥ = λ e. absurd (omega (arith, e, h)) in
+      let f : fileFaultAt bs 0 0 0 ≡ 7 = first-some (headingFault bs 0 0 0) _ some ∙ h in
+      file-fault bs (λ e. absurd (omega (arith, e, f))) ∙ f
+
+  -- the file that stands first
+  module _ (at prev : ℕ) (j : FilesAt bs 0 0 at prev) where
+    pub one-stop : (fileFaultAt bs 0 prev at ≡ 0 → ⊥) → fileFault bs ≡ fileFaultAt bs 0 prev at
+    unfolding placeAt prevHolder
+    one-stop n =
+        let a : at ≡ 0 = omega (arith, j .at-is) in
+        let e : fileFaultAt bs 0 prev at ≡ fileFaultAt bs 0 0 0 = ap₂ (fileFaultAt bs 0) (j .prev-is) a in
+        file-fault bs (λ z. n (e ∙ z)) ∙ sym e
+
+  -- and what follows it
+  module _ (at prev : ℕ) (j : FilesAt bs 0 1 at prev) (some : 0 < length bs) where
+    one-size : at ≡ fileSize (headingOf bs 0)
+    unfolding placeAt
+    one-size = omega (arith, j .at-is)
+
+    one-place : placeAt bs 0 0 ≡ 0
+    unfolding placeAt
+    one-place = omega arith
+
+    one-clear : fileFaultAt bs 0 0 0 ≡ 0
+    unfolding faultOfFile prevHolder
+    one-clear =
+        let t : ltb (placeAt bs 0 0) (length bs) ≡ true = lt-ltb (placeAt bs 0 0) (length bs) (omega (arith, one-place)) in
+        rw (t, one-place) at (firstOf-each (faultOfFile bs 0) 1 0 (j .none) (omega arith))
+
+    pub one-over : at < length bs → fileFault bs ≡ 7
+    one-over l = file-end bs one-clear ∙ unless-no _ 7 (ne-eqb (length bs) (fileSize (headingOf bs 0)) (λ e. absurd (omega (arith, e, one-size))))
+
+    pub one-whole : length bs ≤ at → fileFault bs ≡ 0
+    one-whole l =
+        file-end bs one-clear ∙ unless-yes _ 7 (eq-eqb (length bs) (fileSize (headingOf bs 0)) (omega (arith, one-size, j .within)))

@@ -160,28 +160,22 @@ fn file_fault(bytes: &[u8], base: usize, prev: usize, at: usize) -> u8
     )
 }
 
-// The first fault of bytes that should be one file, or 0.
-pub fn check_file(bytes: &[u8]) -> u8
-    ensures { λ r. ⌜ r ≡ fileFault (now (bytes .entry)) ⌝ }
-{
-    let fault = file_fault(bytes, 0, 0, 0);
-    if fault != 0 {
-        return fault;
-    }
-    let h = records::heading_at(bytes, 0);
-    words::unless(bytes.len() == records::file_size(h), words::MALFORMED)
-}
-
-// The first fault of all the bytes from start on as files that belong together, or 0.
-pub fn files_fault(bytes: &[u8], start: usize) -> u8
-    ensures { λ r. ⌜ r ≡ filesFault (now (bytes .entry)) start ⌝ }
+// The first fault of all the bytes from start on as files that belong together, or 0. No more than `most` files may stand there: what follows them
+// is a fault. The loop serves a bundle and a single file, so that the compiler copies the test of a file into it.
+fn files_within(bytes: &[u8], start: usize, most: usize) -> u8
+    ensures all { λ r. ⌜ (length (now (bytes .entry)) ≤ most → r ≡ filesFault (now (bytes .entry)) start) ⌝ }
+    ensures one { λ r. ⌜ (start ≡ 0 → most ≡ 1 → r ≡ fileFault (now (bytes .entry))) ⌝ }
 {
     if bytes.len() <= start {
         return words::MALFORMED;
     }
     let mut at = start;
     let mut prev: usize = 0;
+    let mut left = most;
     while at < bytes.len() {
+        if left == 0 {
+            return words::MALFORMED;
+        }
         let fault = file_fault(bytes, start, prev, at);
         if fault != 0 {
             return fault;
@@ -189,8 +183,23 @@ pub fn files_fault(bytes: &[u8], start: usize) -> u8
         let h = records::heading_at(bytes, at);
         prev = h.holder;
         at += records::file_size(h);
+        left -= 1;
     }
     0
+}
+
+// The first fault of bytes that should be one file, or 0.
+pub fn check_file(bytes: &[u8]) -> u8
+    ensures { λ r. ⌜ r ≡ fileFault (now (bytes .entry)) ⌝ }
+{
+    files_within(bytes, 0, 1)
+}
+
+// The first fault of all the bytes from start on as files that belong together, however many, or 0.
+pub fn files_fault(bytes: &[u8], start: usize) -> u8
+    ensures { λ r. ⌜ r ≡ filesFault (now (bytes .entry)) start ⌝ }
+{
+    files_within(bytes, start, bytes.len())
 }
 
 // The first fault of all the bytes as a bundle, or 0.
