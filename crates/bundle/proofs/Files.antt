@@ -11,7 +11,8 @@ use lib.ListN.{length}
 use lib.Dec.{ltb, eqb, lit<}
 use borrow.Author.Tests.{lt-ltb, le-ltb, eq-eqb, ne-eqb}
 use Rattle.words.specs.Refusal.{unless, firstOf}
-use Rattle.words.proofs.Refusal.{pass, stop, unless-yes, unless-no, first-none, first-some, first-left, first-right, firstOf-more, firstOf-stop, firstOf-each, firstOf-zero}
+use Rattle.words.proofs.Refusal.{pass, stop, unless-yes, unless-no, first-none, first-some, first-left, first-right}
+use Rattle.words.proofs.Refusal.{firstOf-more, firstOf-stop, firstOf-each, firstOf-zero}
 use Rattle.records.specs.Layout.{recordSize, headKind, headLen, headSize, jobLen, fileSize, orderKind, orderLen, orderSize}
 use Rattle.records.specs.Record.{framed, headingOf}
 use Rattle.bundle.specs.Bundle.{numOf, headingFault, jobFaultAt, prevNum, jobFault, fileFaultAt, fileFault, placeAt, prevHolder, filesIn}

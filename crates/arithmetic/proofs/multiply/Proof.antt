@@ -31,7 +31,10 @@ multiply-spec =
     (λ c.
     let s = c .before .before .before .before .before in
     declined (F s) (s .args .out .now) _ _ (c .before .operands-fault .ensures) (c .if1 .taken))
-    (λ c κs. let k = known (c .before) in ((k .range .k-low, k .range .k-high), (k .range .d-low, k .range .d-high), omega arith, omega arith, omega arith))
+    (λ c κs.
+    let k = known (c .before) in
+    let r = k .range in
+    ((r .k-low, r .k-high), (r .d-low, r .d-high), omega arith, omega arith, omega arith))
     (λ c. search needs)
     (λ c.
     let e = c .before .before .before .before in

@@ -25,7 +25,12 @@ returns c =
     let hw : length w ≡ d = length-product k (lower d) x y (hy ∙ sym hl) ∙ hl in
     let v : c .before .before .before .product .result ≡ held d w =
     c .before .before .before .product .ensures
-    ∙ rw (c .before .before .before .before .before .before .load .ensures, c .before .before .before .before .before .load2 .ensures, held-take d x hx, held-take d y hy) in
+    ∙ rw (
+      c .before .before .before .before .before .before .load .ensures,
+      c .before .before .before .before .before .load2 .ensures,
+      held-take d x hx,
+      held-take d y hy,
+    ) in
     c .before .before .store .ensures ∙ stored d (s .args .out .now) _ w (s .pre .4) v hw
 
 pub store-product-by-spec : {M : Type 1} → statement M

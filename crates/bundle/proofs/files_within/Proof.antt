@@ -73,16 +73,16 @@ returns-3 c =
           e₀ ∙ sym (one-stop (bs s) (l .at) (l .prev) (rw (z, g) at j) (λ y. c .if3 .taken (e₀ ∙ y))),
     )
 
-no-fault : (c : tie.Else3 Inv-loop μ-loop) → fileFaultAt (bs (c .before .before .before .before .before .before .before))
-    (c .before .before .before .before .before .before .before .args .start) (c .before .before .before .before .loop .prev)
-    (c .before .before .before .before .loop .at) ≡ 0
+-- the function's entry, and the file that has no fault
+abbrev S : tie.Else3 Inv-loop μ-loop → tie.Start Inv-loop μ-loop
+S c = c .before .before .before .before .before .before .before
+
+no-fault : (c : tie.Else3 Inv-loop μ-loop) → let l = c .before .before .before .before .loop in
+    fileFaultAt (bs (S c)) (S c .args .start) (l .prev) (l .at) ≡ 0
 no-fault c = sym (c .before .file-fault .ensures) ∙ c .if3 .left
 
-file : (c : tie.Else3 Inv-loop μ-loop) → FileOk (bs (c .before .before .before .before .before .before .before))
-    (c .before .before .before .before .before .before .before .args .start) (c .before .before .before .before .loop .prev)
-    (c .before .before .before .before .loop .at)
-file c = file-ok (bs (c .before .before .before .before .before .before .before)) (c .before .before .before .before .before .before .before .args .start)
-    (c .before .before .before .before .loop .prev) (c .before .before .before .before .loop .at) (no-fault c)
+file : (c : tie.Else3 Inv-loop μ-loop) → let l = c .before .before .before .before .loop in FileOk (bs (S c)) (S c .args .start) (l .prev) (l .at)
+file c = let l = c .before .before .before .before .loop in file-ok (bs (S c)) (S c .args .start) (l .prev) (l .at) (no-fault c)
 
 heading-at-requires : tie.Need-heading-at-requires Inv-loop μ-loop
 heading-at-requires c κs = file c .heading .frame .within
@@ -92,18 +92,18 @@ file-size-requires c κs =
     let r = ok-ranges _ (file (c .before) .heading .ranges) in
     rw (c .heading-at .ensures) (r .book .d-high, r .jobs-high)
 
-size-is : (c : tie.After-file-size Inv-loop μ-loop) → c .file-size .result ≡ fileSize
-    (headingOf (bs (c .before .before .before .before .before .before .before .before .before)) (c .before .before .before .before .before .before .loop .at))
+size-is : (c : tie.After-file-size Inv-loop μ-loop) → let e = c .before .before in
+    c .file-size .result ≡ fileSize (headingOf (bs (S e)) (e .before .before .before .before .loop .at))
 size-is c = c .file-size .ensures ∙ ap fileSize (c .before .heading-at .ensures)
 
-size-fits : (c : tie.After-file-size Inv-loop μ-loop) → c .before .before .before .before .before .before .loop .at + c .file-size .result ≤ length
-    (bs (c .before .before .before .before .before .before .before .before .before))
+size-fits : (c : tie.After-file-size Inv-loop μ-loop) → let e = c .before .before in
+    e .before .before .before .before .loop .at + c .file-size .result ≤ length (bs (S e))
 size-fits c = rw (size-is c) (file (c .before .before) .within)
 
 size-low : (c : tie.After-file-size Inv-loop μ-loop) → 7 ≤ c .file-size .result
 size-low c =
-    let h = headingOf (bs (c .before .before .before .before .before .before .before .before .before))
-    (c .before .before .before .before .before .before .loop .at) in
+    let e = c .before .before in
+    let h = headingOf (bs (S e)) (e .before .before .before .before .loop .at) in
     omega (arith, size-is c, head-low h, file-low h)
 
 add-at : tie.Need-add-at Inv-loop μ-loop
