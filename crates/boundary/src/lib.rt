@@ -21,6 +21,7 @@ ghost use Rattle.totals.specs.Total.{totalFault, totalWords};
 ghost use Rattle.archive.specs.Archive.{sharesAt, sharesOver, openPlace, openRun};
 ghost use Rattle.listing.specs.Listing.{lineOf, lineFault};
 ghost use Rattle.text.specs.Text.{written};
+ghost use Rattle.mending.specs.Mended.{mended, mendFault};
 ghost use Rattle.boundary.specs.Boundary.{params};
 use words::Params;
 
@@ -321,4 +322,13 @@ pub extern "C" fn yikes_list_line(
         (length (lineOf (now (bytes .entry)) place) ∷ []) ⌝ }
 {
     listing::list_line(bytes, place, line, size)
+}
+
+// A bundle mended: each wrong share replaced by its polynomial's value, all else as it is, into an output of the bundle's length.
+#[no_mangle]
+pub extern "C" fn yikes_mend(bytes: &[u8], out: &mut [u8]) -> u8
+    ensures { λ r. ⌜ (r ≡ mendFault (now (bytes .entry)) (length (now (out .entry))))
+        × (now (out .exit) ≡ kept (mendFault (now (bytes .entry)) (length (now (out .entry)))) (now (out .entry)) (mended (now (bytes .entry)))) ⌝ }
+{
+    mending::mend(bytes, out)
 }

@@ -1,5 +1,5 @@
--- The marked examples of paper 01, "Bench examples", as a table of questions with their answers. What is asked is what the contracts cite.
--- Assumes nothing.
+-- The marked examples of paper 01, "Bench examples", and the sample of paper 02, K2, as a table of questions with their answers. What is asked is what
+-- the contracts cite. Assumes nothing.
 use mathlib.Core.List.{List, [], _∷_, _++_}
 use Prim.Native.Nat.{ℕ, _-_, _^_}
 use lib.IntN.{ℤ, pos, negℤ}
@@ -12,6 +12,8 @@ use Rattle.sharing.specs.Dealing.{dealt}
 use Rattle.sharing.specs.Opening.{lent, opening}
 use Rattle.text.specs.Text.{ascii}
 use Rattle.listing.specs.Listing.{listingOf}
+use Rattle.mending.specs.Mended.{mended}
+use Rattle.mending.specs.Report.{reportOf}
 
 pub data Question : Type 0 where
   -- k, d and two elements
@@ -26,6 +28,9 @@ pub data Question : Type 0 where
   openingOf : Params → List ℕ → List ℕ → ℕ → Question
   -- the bytes of the program's input
   printedFor : List ℕ → Question
+  -- the same of `mend`, and of a bundle that is mended
+  reportedFor : List ℕ → Question
+  mendedFrom : List ℕ → Question
 
 pub data Answer : Type 0 where
   words : List ℕ → Answer
@@ -36,6 +41,8 @@ pub data Answer : Type 0 where
   opened : ℕ → List ℕ → Answer
   -- the bytes of the program's output
   text : List ℕ → Answer
+  -- the bytes of a bundle
+  bundle : List ℕ → Answer
 
 abbrev pub told : Params → List Share → Opening → Answer
 told p ss (declines c) = refused c
@@ -48,6 +55,8 @@ answer (readingOf k w) = integer (meaning k w)
 answer (dealingOf p secret coefficients) = words (dealt p secret coefficients)
 answer (openingOf p hs ws e) = told p (lent (p .d) hs ws) (opening p hs ws e (p .d) 1)
 answer (printedFor bs) = text (listingOf bs)
+answer (reportedFor bs) = text (reportOf bs)
+answer (mendedFrom bs) = bundle (mended bs)
 
 pub record Example : Type 0 where
   pub asked : Question
@@ -70,9 +79,9 @@ heading holder = (19 ∷ 0 ∷ 0 ∷ 0 ∷ 1 ∷ 0 ∷ 3 ∷ 2 ∷ 3 ∷ 0 ∷ h
 abbrev pub job : ℕ → ℕ → ℕ → List ℕ
 job number first second = (26 ∷ 0 ∷ 0 ∷ 0 ∷ 2 ∷ 0 ∷ []) ++ eightBytes number ++ eightBytes first ++ eightBytes second
 
--- "Job 10: (5,2), (5,2), (1,2). Job 11: (5,2), (1,2), (7,2)."
-abbrev pub sample : List ℕ
-sample =
+-- "Job 10: (5,2), (5,2), (1,2). Job 11: (5,2), (1,2), (7,2).", by the first word of holder 3's share of job 10
+abbrev pub sampleWith : ℕ → List ℕ
+sampleWith first =
     order 1
     ++ heading 1
     ++ job 10 5 2
@@ -81,8 +90,11 @@ sample =
     ++ job 10 5 2
     ++ job 11 1 2
     ++ heading 3
-    ++ job 10 1 2
+    ++ job 10 first 2
     ++ job 11 7 2
+
+abbrev pub sample : List ℕ
+sample = sampleWith 1
 
 abbrev pub table : List Example
 table =
@@ -108,6 +120,9 @@ table =
     ∷ record { asked = openingOf (bench 0) (1 ∷ 2 ∷ 3 ∷ []) (5 ∷ 2 ∷ 1 ∷ 2 ∷ 7 ∷ 2 ∷ []) 1; expected = refused 6 }
     -- M9 and M10 as the program prints them
     ∷ record { asked = printedFor sample; expected = text (ascii "job state wrong words\n10 open 3 -3,2\n11 6 - -\n") }
+    -- and what `mend` prints and writes for them: holder 3's share of job 10 becomes (5,2), and job 11 keeps its bytes
+    ∷ record { asked = reportedFor sample; expected = text (ascii "10 holder 3\n11 refused 6\n") }
+    ∷ record { asked = mendedFrom sample; expected = bundle (sampleWith 5) }
     -- M11: X³ times X
     ∷ record {
       asked = productOf 64 4 (0 ∷ 0 ∷ 0 ∷ 1 ∷ []) (0 ∷ 1 ∷ 0 ∷ 0 ∷ []);

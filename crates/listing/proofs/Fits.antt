@@ -30,14 +30,14 @@ use Rattle.listing.proofs.Lines.{place-poly}
 
 -- ---- no refusal is above 9
 
-input-le : (bs : List ℕ) → inputFault bs ≤ 9
+pub input-le : (bs : List ℕ) → inputFault bs ≤ 9
 unfolding inputFault
 input-le bs =
     first-holds (λ c. c ≤ 9) (unless (leb (length bs) mostInput) LENGTH) (bundleFault bs)
     (unless-holds (λ c. c ≤ 9) (omega arith) _ LENGTH (omega arith))
     (bundle-holds (λ c. c ≤ 9) (omega arith) (omega arith) (omega arith) (omega arith) (omega arith) bs)
 
-place-le : (bs : List ℕ) (p : ℕ) → faultOf (placeOpening bs p) ≤ 9
+pub place-le : (bs : List ℕ) (p : ℕ) → faultOf (placeOpening bs p) ≤ 9
 place-le bs p = go (place-states bs p)
   where
     go : JobState (placeOpening bs p) → faultOf (placeOpening bs p) ≤ 9
@@ -47,7 +47,7 @@ place-le bs p = go (place-states bs p)
 
 -- ---- the pieces
 
-num-lt : (bs : List ℕ) (at : ℕ) → Bytes bs → numOf bs at < 2 ^ 64
+pub num-lt : (bs : List ℕ) (at : ℕ) → Bytes bs → numOf bs at < 2 ^ 64
 unfolding numOf
 num-lt bs at b = leAt-lt 8 bs (bodyAt at) b
 

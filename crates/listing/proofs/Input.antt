@@ -35,7 +35,7 @@ fault-none bs e = first-right (unless (leb (length bs) mostInput) LENGTH) (bundl
 -- ---- the pieces, by what accepting gave
 
 module _ (bs : List ℕ) (r : Accepted) (e : r ≡ acceptedInput bs) where
-  fault-is : inputFault bs ≡ r .fault
+  pub fault-is : inputFault bs ≡ r .fault
   unfolding acceptedInput
   fault-is = sym (ap (λ (a : Accepted). a .fault) e)
 

@@ -18,7 +18,7 @@ use Rattle.records.specs.declared.Heading.{Heading}
 use Rattle.bundle.specs.Bundle.{numOf, jobAt, paramsOf, allowanceOf, bundleHeading}
 use Rattle.archive.specs.Archive.{sharesAt, placeOpening}
 use Rattle.text.specs.Text.{written, lineRoom, openLine, declinedLine, readings}
-use Rattle.text.proofs.Written.{Wrote, written-none}
+use Rattle.text.proofs.Written.{written-none}
 use Rattle.listing.specs.Listing.{lineBy, lineOf}
 
 -- the job of an opened place is an element: d words, in width
@@ -70,12 +70,6 @@ module _ (bs : List ℕ) (p : ℕ) (h : Heading) (e : h ≡ bundleHeading bs) (n
         ∙ ap₂ (λ (x : ℕ) (ws : List ℕ). openLine number x (map (signedOf (h .params .k)) ws))
         (sym (u ∙ ap (wrongOf (h .params .k) (h .params .d) (sharesAt bs p)) opened)) (sym first-row)
 
--- what a call gives that writes a text from the start, where the text is a line
-pub wrote-line : (old new line text : List ℕ) (r : ℕ) → line ≡ text → Wrote old 0 text new r → length text ≤ lineRoom
-    → (new ≡ written 0 line old) × (r ≡ length line) × (r ≤ lineRoom)
-wrote-line old new line text r e w l =
-    (w .0 ∙ ap (λ (t : List ℕ). written 0 t old) (sym e), omega (arith, w .1, ap length e), omega (arith, w .1))
-
--- and where there is nothing to write
+-- a piece with nothing to write
 pub wrote-none : (old text : List ℕ) → text ≡ [] → (old ≡ written 0 text old) × (0 ≡ length text) × (0 ≤ lineRoom)
 wrote-none old text e = (sym (ap (λ (t : List ℕ). written 0 t old) e ∙ written-none old 0), sym (ap length e), omega arith)

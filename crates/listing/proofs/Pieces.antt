@@ -1,7 +1,7 @@
 -- The pieces of a text: each but those past the last has a byte, so they end; joined they are the text of the listing; and what is written after
 -- any number of them is a beginning of it. And the printers of an input. Assumes nothing.
 use mathlib.Core.Path.{_≡_, refl, sym, ap, ap₂, _∙_}
-use mathlib.Core.List.{List, [], _++_, map, append-assoc, append-nil}
+use mathlib.Core.List.{List, [], _++_, map, append-nil}
 use Prim.Native.Nat.{ℕ, zero, suc, _+_, _-_, _≤_, _<_, min}
 use native.Mathlib.Decide.{decLe}
 use native.Mathlib.Omega.{arith}
@@ -17,6 +17,7 @@ use Rattle.bundle.specs.declared.Accepted.{Accepted}
 use Rattle.bundle.proofs.Bundles.{bundle-ok, bundle-ranges}
 use Rattle.archive.specs.Archive.{sharesAt, placeOpening}
 use Rattle.text.specs.Text.{ascii, decimal, joined, holdersText, wordsText, headLine, refusedLine, jobLine, openLine, declinedLine}
+use Rattle.text.proofs.Runs.{run-add, run-empty}
 use Rattle.listing.specs.Listing.{lineBy, lineOf, linesFrom, inputFault, unlessRefused, listingOf}
 use Rattle.listing.specs.Pieces.{pieceBy, piece, piecesIn, piecesFrom, acceptedInput, printerAt}
 use Rattle.listing.specs.declared.Printer.{Printer}
@@ -83,19 +84,12 @@ piece-last bs i e =
 -- i pieces, and then n more
 pub pieces-add : (bs : List ℕ) (a i n : ℕ) → piecesFrom bs a i ++ piecesFrom bs (a + i) n ≡ piecesFrom bs a (i + n)
 unfolding piecesFrom
-pieces-add bs a zero n = ap₂ (piecesFrom bs) (let e : a + 0 ≡ a = omega arith in e) (let e : n ≡ 0 + n = omega arith in e)
-pieces-add bs a (suc i) n =
-    let s : a + suc i ≡ suc a + i = omega arith in
-    let m : suc (i + n) ≡ suc i + n = omega arith in
-    append-assoc (piece bs a) (piecesFrom bs (suc a) i) (piecesFrom bs (a + suc i) n)
-    ∙ ap (λ (l : List ℕ). piece bs a ++ l) (ap (λ (k : ℕ). piecesFrom bs (suc a) i ++ piecesFrom bs k n) s ∙ pieces-add bs (suc a) i n)
-    ∙ ap (piecesFrom bs a) m
+pieces-add bs = run-add (piecesFrom bs) (piece bs) (λ i. refl) (λ i n. refl)
 
 -- past the last there is nothing
 pieces-past : (bs : List ℕ) (i n : ℕ) → piecesIn bs ≤ i → piecesFrom bs i n ≡ []
 unfolding piecesFrom
-pieces-past bs i zero h = refl
-pieces-past bs i (suc n) h = ap₂ _++_ (piece-none bs i h) (pieces-past bs (suc i) n (omega arith))
+pieces-past bs i n h = run-empty (piecesFrom bs) (piece bs) (λ j. refl) (λ j m. refl) i n (λ j l m. piece-none bs j (omega arith))
 
 -- the pieces after the first are the lines of the places
 lines-are : (bs : List ℕ) (p n : ℕ) → inputFault bs ≡ 0 → p + n ≤ bundleHeading bs .jobs → piecesFrom bs (suc p) n ≡ linesFrom bs p n

@@ -7,3 +7,4 @@ pub mod Written
 pub mod Opened
 pub mod OwnTotals
 pub mod Files
+pub mod Mended

@@ -138,8 +138,8 @@ module _ (a : Archive) (s : Stored a) where
       deals-at i u = all-at (Deals p) js i _ deals (omega arith)
 
       -- a file that has its holder's shares has at each place the share of the job
-      words-share : (i : ℕ) → i < length (a .numbers) → (h : ℕ) → (1 ≤ h) × (h ≤ p .n) → a .words h ≡ sharesOf p js h →
-          wordsIn a i h ≡ shareOf p (atPlace js i) h
+      pub words-share : (i : ℕ) → i < length (a .numbers) → (h : ℕ) → (1 ≤ h) × (h ≤ a .params .n) → a .words h ≡ sharesOf (a .params) js h →
+          wordsIn a i h ≡ shareOf (a .params) (atPlace js i) h
       words-share i u h g e =
           ap (λ (ws : List ℕ). take (p .d) (drop (i * p .d) ws)) e ∙ share-no p (range a s) h (g .0) (g .1) js deals i (omega arith)
 

@@ -1,7 +1,7 @@
--- What is read of the bundle of an archive whose files have words of 64 bits, wide ones too (`reads`): its parameters, holders and places are those
--- of the archive, the shares at a place are the words in the holders' files (`shares-at`), those of a run their sums (`shares-over`). An archive that
--- the calls wrote is such, with its words in width (`written-ranges`, `written-stored`), and so is each that it becomes when its files' words change
--- (`changed-stored`). Assumes nothing.
+-- What is read of the bundle of an archive whose files have words of 64 bits, wide ones too (`reads`, `contents`): its parameters, holders and places
+-- are those of the archive, the shares at a place are the words in the holders' files (`shares-at`), those of a run their sums (`shares-over`). An
+-- archive that the calls wrote is such, with its words in width (`written-ranges`, `written-stored`), and so is each that it becomes when its files'
+-- words change (`changed-stored`). Assumes nothing.
 use mathlib.Core.Path.{_≡_, refl, sym, ap, ap₂, subst, _∙_}
 use mathlib.Core.Bool.{true}
 use mathlib.Core.List.{List, [], _∷_, _++_, map, map-id}
@@ -24,7 +24,7 @@ use Rattle.sharing.specs.Opening.{risingTo}
 use Rattle.sharing.proofs.Lent.{width-take, width-drop}
 use Rattle.records.specs.Layout.{orderSize}
 use Rattle.bundle.specs.Bundle.{mostJobs, rangesOk, bundleFault, bundleHeading, paramsOf, filesOf, holderOf}
-use Rattle.bundle.specs.Contents.{Job, File, wordsOf}
+use Rattle.bundle.specs.Contents.{Job, File, Bundle, bundleFrom, wordsOf}
 use Rattle.bundle.proofs.Headings.{ok-ranges}
 use Rattle.bundle.proofs.Files.{files-empty}
 use Rattle.bundle.proofs.Bundles.{bundle-ok, holders-rise}
@@ -38,9 +38,10 @@ use Rattle.archive.proofs.Shares.{holder-range, shares-holders}
 use Rattle.codewords.specs.WellFormed.{Holders}
 use Rattle.writer.specs.Bytes.{filesBytes, orderBytes, bundleBytes}
 use Rattle.writer.specs.ByPlace.{fileNo, jobNo, ReadsAs}
-use Rattle.writer.specs.Fits.{Words64, FileFits, Chain, done, next}
+use Rattle.writer.specs.Fits.{Words64, FileFits, Chain, done, next, BundleFits}
 use Rattle.writer.specs.Write.{headingFor, fileFor, jobOf, numbersIn, bundleWriteFault}
 use Rattle.writer.proofs.ByPlace.{Alike, no-file, a-file, bundled-reads, written-reads}
+use Rattle.writer.proofs.Decode.{bundle-read}
 use Rattle.writer.proofs.Calls.{jobs-count, jobs-at, Writable, writable}
 use Rattle.writer.proofs.Orders.{order-fault}
 use Rattle.writer.proofs.Undo.{nums-of, width-fits, lists-fit, file-for-fits}
@@ -88,9 +89,12 @@ module _ (bs : List ℕ) (z : bundleFault bs ≡ 0) where
 
 -- ---- the files of an archive
 
--- its bundle reads as what was written of it
+-- its bundle as a value, and that the written bytes read as it
+abbrev pub bundleOf : Archive → Bundle
+bundleOf a = record { allowance = a .allowance; files = filesWith a (a .holders) }
+
 abbrev pub Reads : Archive → Type 0
-Reads a = ReadsAs (writtenBundle a) (record { allowance = a .allowance; files = filesWith a (a .holders) })
+Reads a = ReadsAs (writtenBundle a) (bundleOf a)
 
 module _ (a : Archive) where
   files-long : (hs : List ℕ) → length (filesWith a hs) ≡ length hs
@@ -120,7 +124,7 @@ module _ (a : Archive) (r : Reads a) where
   in-files : (f : ℕ) → f < length hs → f < filesOf bs
   in-files f l = omega (arith, count-is)
 
-  file-is : (f : ℕ) → f < length hs → fileNo (record { allowance = a .allowance; files = filesWith a (a .holders) }) f ≡ fileWith a (getD hs f 0)
+  file-is : (f : ℕ) → f < length hs → fileNo (bundleOf a) f ≡ fileWith a (getD hs f 0)
   file-is f l = file-with a hs f _ l
 
   one-file : 0 < length (a .holders)
@@ -226,14 +230,20 @@ module _ (a : Archive) (s : Stored a) where
       (nums-of d (a .numbers) (a .words h) ∙ sym (nums-of d (a .numbers) (a .words g)))
       (chain g h hs (and-right (leb h (a .params .n)) _ (and-right (ltb prev h) _ e)) (x .1))
 
+  files-chain : BundleFits (filesWith a (a .holders))
+  files-chain = go (a .holders) (s .well-formed .some-holder) (s .well-formed .holders-rise) files-fit
+    where
+      go : (hs : List ℕ) → 1 ≤ length hs → risingTo (a .params .n) 0 hs ≡ true → All (λ h. FileFits (fileWith a h)) hs → BundleFits (filesWith a hs)
+      go [] l e x = absurd (not-suc-le-zero l)
+      go (h ∷ hs) l e x = chain h 0 (h ∷ hs) e x
+
   pub reads : Reads a
   unfolding bundleBytes
-  reads = go (a .holders) (s .well-formed .some-holder) (s .well-formed .holders-rise) files-fit
-    where
-      go : (hs : List ℕ) → 1 ≤ length hs → risingTo (a .params .n) 0 hs ≡ true → All (λ h. FileFits (fileWith a h)) hs →
-          ReadsAs (orderBytes (a .allowance) ++ filesBytes (filesWith a hs)) (record { allowance = a .allowance; files = filesWith a hs })
-      go [] l e x = absurd (not-suc-le-zero l)
-      go (h ∷ hs) l e x = written-reads (record { allowance = a .allowance; files = filesWith a (h ∷ hs) }) (chain h 0 (h ∷ hs) e x)
+  reads = written-reads (bundleOf a) files-chain
+
+  pub contents : bundleFrom (writtenBundle a) ≡ bundleOf a
+  unfolding bundleBytes
+  contents = bundle-read (bundleOf a) files-chain .1
 
 -- its words in width, or changed
 module _ (a : Archive) where

@@ -4,3 +4,4 @@ pub mod Holders
 pub mod Joined
 pub mod Lines
 pub mod Examples
+pub mod Runs

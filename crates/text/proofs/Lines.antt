@@ -8,11 +8,15 @@ use native.Mathlib.Omega.{arith}
 use borrow.Author.Tests.{ltb-true}
 use lib.Dec.{ltb, eqb, lit<}
 use lib.ListN.{length, length-append}
+use lib.Count.{trailingZeros}
 use Rattle.words.specs.declared.Signed.{Signed}
 use Rattle.words.specs.Signed.{signedOf}
 use Rattle.text.specs.Text.{ascii, decimal, signedText, afterCommas, joined, holdersFrom, holders, holdersText, wordsText}
 use Rattle.text.specs.Text.{lineRoom, refusedLine, jobLine, openLine, declinedLine}
+use Rattle.text.specs.Text.{reportRoom, changedLine, changedLines, keptLine}
 use Rattle.text.proofs.Decimal.{decimal-length}
+use Rattle.text.proofs.Holders.{next-holder}
+use Rattle.text.proofs.Joined.{nobody}
 
 -- ---- the parts
 
@@ -143,3 +147,65 @@ refused-length n h =
       length-append (ascii "refused ") (decimal n),
       length-append (ascii "refused " ++ decimal n) (ascii "\n"),
     )
+
+-- ---- the report: the lines of a job fit into `reportRoom`
+
+pub changed-length : (number holder : ℕ) → number < 2 ^ 64 → holder ≤ 99 → length (changedLine number holder) ≤ 31
+unfolding changedLine
+changed-length number holder h l =
+    let n = decimal number in
+    let w = decimal holder in
+    omega (
+      arith,
+      twenty number (omega arith),
+      decimal-length 1 holder (omega arith),
+      length-append n (ascii " holder "),
+      length-append (n ++ ascii " holder ") w,
+      length-append (n ++ ascii " holder " ++ w) (ascii "\n"),
+    )
+
+changes-from : (number i n set : ℕ) → number < 2 ^ 64 → i + n ≤ 100 → length (changedLines number (holdersFrom i n set)) ≤ n * 31
+unfolding changedLines holdersFrom
+changes-from number i zero set h l = omega arith
+changes-from number i (suc n) set h l = one (eqb (set % 2) 1) (changes-from number (suc i) n (set / 2) h (omega arith))
+  where
+    one : (b : Bool) → length (changedLines number (holdersFrom (suc i) n (set / 2))) ≤ n * 31
+        → length (changedLines number (cond b (i ∷ []) [] ++ holdersFrom (suc i) n (set / 2))) ≤ suc n * 31
+    one true r =
+        omega (
+          arith,
+          r,
+          changed-length number i h (omega arith),
+          length-append (changedLine number i) (changedLines number (holdersFrom (suc i) n (set / 2))),
+        )
+    one false r = omega (arith, r)
+
+pub changes-length : (number set : ℕ) → number < 2 ^ 64 → length (changedLines number (holders set)) ≤ reportRoom
+unfolding holders
+changes-length number set h = omega (arith, changes-from number 1 64 set h (omega arith))
+
+pub kept-length : (number n : ℕ) → number < 2 ^ 64 → n < 2 ^ 64 → length (keptLine number n) ≤ reportRoom
+unfolding keptLine
+kept-length number n h l =
+    omega (
+      arith,
+      twenty number (omega arith),
+      refused-length n l,
+      length-append (decimal number) (ascii " "),
+      length-append (decimal number ++ ascii " ") (refusedLine n),
+    )
+
+-- ---- the lines of the places that are left once i bits of a set are off, and w is what is left of it
+
+abbrev pub restLines : ℕ → ℕ → ℕ → List ℕ
+restLines number i w = changedLines number (holdersFrom (i + 1) (64 - i) w)
+
+pub changes-next : (number i w : ℕ) → i ≤ 64 → 0 < w → w < 2 ^ (64 - i)
+    → restLines number i w
+    ≡ changedLine number (i + trailingZeros 64 w + 1) ++ restLines number (i + trailingZeros 64 w + 1) (w / 2 ^ trailingZeros 64 w / 2)
+unfolding changedLines
+changes-next number i w q p h = rw (next-holder i w q p h)
+
+pub changes-last : (number i w : ℕ) → w ≡ 0 → restLines number i w ≡ []
+unfolding changedLines
+changes-last number i w e = rw (e, nobody (i + 1) (64 - i))

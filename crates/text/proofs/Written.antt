@@ -24,6 +24,12 @@ pub record Part (old : List ℕ) (at n : ℕ) (text new : List ℕ) (end : ℕ) 
   pub kept : length new ≡ length old
   pub short : length text ≤ n
 
+-- a call that wrote a text from the start, where the text is a line, or lines, that have room
+pub wrote-line : {room : ℕ} (old new line text : List ℕ) (r : ℕ) → line ≡ text → Wrote old 0 text new r → length text ≤ room
+    → (new ≡ written 0 line old) × (r ≡ length line) × (r ≤ room)
+wrote-line old new line text r e w l =
+    (w .0 ∙ ap (λ (t : List ℕ). written 0 t old) (sym e), omega (arith, w .1, ap length e), omega (arith, w .1))
+
 front-length : (old text : List ℕ) (at : ℕ) → at + length text ≤ length old → length (take at old ++ text) ≡ at + length text
 front-length old text at h =
     let t : length (take at old) ≡ at = length-take-le at old (omega arith) in

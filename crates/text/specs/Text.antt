@@ -1,4 +1,4 @@
--- The text of the listing as bytes, paper 01, "The opened bundle". Assumes nothing.
+-- The text of the listing as bytes, paper 01, "The opened bundle", and of the report of `mend`, paper 02, K2. Assumes nothing.
 use Prim.Native.Nat.{ℕ, zero, suc, _+_, _/_, _%_}
 use Prim.Native.Char.{code}
 use Prim.Native.String.{String, [] as []ₛ, _∷_ as _∷ₛ_}
@@ -92,3 +92,25 @@ openLine number wrong words = jobLine number (ascii "open") (holdersText wrong) 
 unfoldable pub declinedLine : ℕ → ℕ → List ℕ
 unfolding decimal joined jobLine
 declinedLine number state = jobLine number (decimal state) (joined []) (joined [])
+
+-- ---- the report of `mend`, paper 02, K2
+
+-- what the lines of one job fit into: 64 at most, of 31 bytes at most
+abbrev pub reportRoom : ℕ
+reportRoom = 2048
+
+-- "prints each changed place as `10 holder 3`"
+unfoldable pub changedLine : ℕ → ℕ → List ℕ
+unfolding decimal
+changedLine number holder = decimal number ++ ascii " holder " ++ decimal holder ++ ascii "\n"
+
+-- the changed places of a job, by its number and the holders
+unfoldable pub changedLines : ℕ → List ℕ → List ℕ
+unfolding changedLine
+changedLines number [] = []
+changedLines number (h ∷ hs) = changedLine number h ++ changedLines number hs
+
+-- "A job that answers 5 or 6 keeps its bytes and is printed as `11 refused 6`."
+unfoldable pub keptLine : ℕ → ℕ → List ℕ
+unfolding decimal refusedLine
+keptLine number n = decimal number ++ ascii " " ++ refusedLine n

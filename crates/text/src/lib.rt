@@ -1,4 +1,4 @@
-// The text of the listing: each function writes its text into a lent buffer from `at` on, and gives the position after it.
+// The text of the listing and of the report of `mend`: each function writes its text into a lent buffer from `at` on and gives the position after it.
 ghost use mathlib.Core.Path.{_≡_};
 ghost use mathlib.Core.Bool.{true};
 ghost use mathlib.Core.List.{[], _∷_};
@@ -7,9 +7,13 @@ ghost use lib.ListN.{length, take};
 ghost use Rattle.words.specs.Word.{allInWidth};
 ghost use Rattle.text.specs.Text.{written, decimal, signedText, holdersText, wordsText, readings};
 ghost use Rattle.text.specs.Text.{lineRoom, headLine, refusedLine, openLine, declinedLine};
+ghost use Rattle.text.specs.Text.{holders, reportRoom, changedLine, changedLines, keptLine};
 
 // Every line fits into so many bytes: the definition's lineRoom.
 pub const LINE: usize = 400;
+
+// The lines of a job in the report of `mend` fit into so many: the definition's reportRoom.
+pub const REPORT: usize = 2048;
 
 pub fn put_byte(out: &mut [u8], at: usize, b: u8) -> usize
     requires { ⌜ at + 1 ≤ length (now out) ⌝ }
@@ -146,4 +150,44 @@ pub fn put_declined_line(out: &mut [u8], at: usize, number: u64, state: u8) -> u
     let q = put_byte(out, p, b' ');
     let r = put_decimal(out, q, state as u64);
     put_bytes(out, r, b" - -\n")
+}
+
+// The line of a changed place.
+fn put_changed(out: &mut [u8], at: usize, number: u64, holder: u64) -> usize
+    requires { ⌜ at + length (changedLine number holder) ≤ length (now out) ⌝ }
+    ensures { λ r. ⌜ (now (out .exit) ≡ written at (changedLine number holder) (now (out .entry)))
+        × (r ≡ at + length (changedLine number holder)) ⌝ }
+{
+    let p = put_decimal(out, at, number);
+    let q = put_bytes(out, p, b" holder ");
+    let r = put_decimal(out, q, holder);
+    put_byte(out, r, b'\n')
+}
+
+// The lines of a job's changed places, holders rising: each turn writes the line of the lowest one and takes it off.
+pub fn put_changes(out: &mut [u8], at: usize, number: u64, set: u64) -> usize
+    requires { ⌜ at + reportRoom ≤ length (now out) ⌝ }
+    ensures { λ r. ⌜ (now (out .exit) ≡ written at (changedLines number (holders set)) (now (out .entry)))
+        × (r ≡ at + length (changedLines number (holders set))) ⌝ }
+{
+    let mut p = at;
+    let mut w = set;
+    let mut i: u64 = 0;
+    while w != 0 {
+        let z = u64::trailing_zeros(w) as u64;
+        i = i + z + 1;
+        w = (w >> z) >> 1;
+        p = put_changed(out, p, number, i);
+    }
+    p
+}
+
+// The line of a job that keeps its bytes, with the number that says why.
+pub fn put_kept(out: &mut [u8], at: usize, number: u64, n: u8) -> usize
+    requires { ⌜ at + reportRoom ≤ length (now out) ⌝ }
+    ensures { λ r. ⌜ (now (out .exit) ≡ written at (keptLine number n) (now (out .entry))) × (r ≡ at + length (keptLine number n)) ⌝ }
+{
+    let p = put_decimal(out, at, number);
+    let q = put_byte(out, p, b' ');
+    put_refused(out, q, n)
 }

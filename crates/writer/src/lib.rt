@@ -37,7 +37,7 @@ fn put_prefix(out: &mut [u8], at: usize, len: usize, kind: u64)
 }
 
 // Writes the d words that stand in a list from an index on.
-fn put_words(out: &mut [u8], at: usize, words: &[u64], from: usize, d: usize)
+pub fn put_words(out: &mut [u8], at: usize, words: &[u64], from: usize, d: usize)
     requires { ⌜ (at + 8 * d ≤ length (now out)) × (from + d ≤ length (now words)) ⌝ }
     ensures { λ _. ⌜ now (out .exit) ≡ take at (now (out .entry)) ++
         (wordsBytes 8 (take d (drop from (now (words .entry)))) ++ drop (at + 8 * d) (now (out .entry))) ⌝ }
@@ -201,7 +201,7 @@ pub fn write_file(
 }
 
 // Writes bytes from a position on.
-fn put_bytes(out: &mut [u8], at: usize, bytes: &[u8])
+pub fn put_bytes(out: &mut [u8], at: usize, bytes: &[u8])
     requires { ⌜ at + length (now bytes) ≤ length (now out) ⌝ }
     ensures { λ _. ⌜ now (out .exit) ≡ take at (now (out .entry)) ++
         (now (bytes .entry) ++ drop (at + length (now (bytes .entry))) (now (out .entry))) ⌝ }

@@ -8,11 +8,12 @@ use denote.Ref.{now}
 use Rattle.decoder.proofs.Rows.{zero-shaped}
 use Rattle.polynomial.specs.Rows.{Rows}
 use Rattle.text.specs.Text.{openLine, declinedLine, readings}
+use Rattle.text.proofs.Written.{wrote-line}
 use Rattle.text.proofs.Lines.{open-length, declined-length}
 use Rattle.bundle.proofs.Bundles.{bundle-ok, ranges-of}
 use Rattle.bundle.proofs.Headings.{Ranges}
 use Rattle.listing.specs.Listing.{lineOf}
-use Rattle.listing.proofs.Lines.{declined-line, narrow, open-line, wrote-line}
+use Rattle.listing.proofs.Lines.{declined-line, narrow, open-line}
 use Rattle.listing.proofs.put_line.Statement.{statement}
 use Rattle.listing.proofs.put_line.Tie as tie
 

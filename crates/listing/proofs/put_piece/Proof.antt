@@ -7,9 +7,10 @@ use native.Mathlib.Omega.{arith}
 use lib.ListN.{length}
 use denote.Ref.{now}
 use Rattle.text.specs.Text.{written, headLine, refusedLine}
+use Rattle.text.proofs.Written.{wrote-line}
 use Rattle.text.proofs.Lines.{refused-length}
 use Rattle.listing.specs.Pieces.{piece}
-use Rattle.listing.proofs.Lines.{wrote-line, wrote-none}
+use Rattle.listing.proofs.Lines.{wrote-none}
 use Rattle.listing.proofs.Input.{piece-refused, piece-refused-end, piece-head, piece-line, piece-end, input-none, input-files, input-heading}
 use Rattle.listing.proofs.put_piece.Statement.{statement}
 use Rattle.listing.proofs.put_piece.Tie as tie

@@ -2,14 +2,14 @@
 use borrow.Author.Needs.{needs}
 use Prim.Native.Nat.{_+_, _-_, _≤_}
 use lib.ListN.{length}
-use Rattle.open.proofs.write_text.Statement.{statement}
-use Rattle.open.proofs.write_text.Tie as tie
+use Rattle.streams.proofs.write_text.Statement.{statement}
+use Rattle.streams.proofs.write_text.Tie as tie
 
 abbrev Inv-loop : tie.InvT-loop
-Inv-loop text done₀ tries₀ done tries = done ≤ length text
+Inv-loop fd text done₀ tries₀ done tries = done ≤ length text
 
 abbrev μ-loop : tie.MeasureT-loop
-μ-loop text done₀ tries₀ done tries = length text - done + tries
+μ-loop fd text done₀ tries₀ done tries = length text - done + tries
 
 loop-holds : tie.Need-loop-holds Inv-loop μ-loop
 loop-holds c = search needs

@@ -1,0 +1,10 @@
+pub mod Contents
+pub mod Words
+pub mod Bytes
+pub mod Mended
+pub mod Turns
+pub mod Opens
+pub mod Replaced
+pub mod Mends
+pub mod Changes
+pub mod Report

@@ -1,0 +1,15 @@
+-- `pieces`: one of an input that is refused, and of another one a place. Assumes nothing.
+use borrow.Author.Needs.{needs}
+use mathlib.Core.Path.{sym}
+use Rattle.words.proofs.Refusal.{kept-some}
+use Rattle.mending.proofs.pieces.Statement.{statement}
+use Rattle.mending.proofs.pieces.Tie as tie
+
+returns : tie.Need-returns
+returns c = let a = c .before .before .args .accepted in sym (kept-some (a .fault) 1 (a .heading .jobs) (c .if1 .taken))
+
+returns-2 : tie.Need-returns-2
+returns-2 c = search needs
+
+pub pieces-spec : {M : Type 1} → statement M
+pieces-spec = tie.close (tie.spec returns returns-2)

@@ -1,0 +1,4 @@
+pub mod Mended
+pub mod Progress
+pub mod Report
+pub mod Mends
