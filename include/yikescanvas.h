@@ -154,6 +154,11 @@ uint8_t yikes_fetch_fault(const uint8_t *bundle, size_t bundle_length, size_t ho
 uint8_t yikes_list_line(const uint8_t *bundle, size_t bundle_length, size_t place, uint8_t *line, size_t line_length, uint64_t *length,
                         size_t length_length);
 
+/* Mends the bundle: out has as many bytes as the bundle, and becomes the bundle with the words of each wrong share, as yikes_open_place names them,
+ * replaced by the value of the job's polynomial at its holder's point. A job that declines with 5 or 6 keeps its words, and every other byte
+ * stays. A job that opens in the bundle opens in out to the same words, and names nobody. Then gives 2. */
+uint8_t yikes_mend(const uint8_t *bundle, size_t bundle_length, uint8_t *out, size_t out_length);
+
 #ifdef __cplusplus
 }
 #endif

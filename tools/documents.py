@@ -1,9 +1,9 @@
 #!/usr/bin/env python3
-"""Whether README.md and docs/REFERENCE.md say what is so: the bundle taken apart, byte by byte, and what `open` lists of it; the tables of refusals,
-of allowances and of what 65,536 bytes hold; README's sample; the kit's identity.
+"""Whether README.md and docs/REFERENCE.md say what is so: the bundle taken apart, byte by byte, what `open` lists of it and what `mend` prints; the
+tables of refusals, of allowances and of what 65,536 bytes hold; README's samples; the kit's identity.
 
-  tools/documents.py OPEN              exit 1, with a line for each, if something is otherwise; OPEN is the program
-  tools/documents.py --block NAME      the block of docs/REFERENCE.md under the mark NAME: dump, listing, program, printed"""
+  tools/documents.py OPEN MEND         exit 1, with a line for each, if something is otherwise; OPEN and MEND are the programs
+  tools/documents.py --block NAME      the block of docs/REFERENCE.md under the mark NAME: dump, listing, report, program, printed"""
 import pathlib
 import re
 import subprocess
@@ -53,15 +53,16 @@ def dump():
         yield 'the bytes taken apart end at %d' % at
 
 
-def listings(program):
-    def listed(data):
+def printed(program, what):
+    """What a program prints of the dump, and of README's sample."""
+    def prints(data):
         return subprocess.run([program], input=data, capture_output=True, check=True).stdout.decode()
 
-    if listed(bytes(r.sample())) != block('listing'):
-        yield 'the listing of the dump is otherwise'
-    sample = listed((TOP / 'samples/labs.bundle').read_bytes())
+    if prints(bytes(r.sample())) != block(what):
+        yield 'the %s of the dump is otherwise' % what
+    sample = prints((TOP / 'samples/labs.bundle').read_bytes())
     if ''.join('    %s\n' % line for line in sample.splitlines()) not in README:
-        yield 'README.md has another listing of samples/labs.bundle'
+        yield 'README.md has another %s of samples/labs.bundle' % what
 
 
 def capacity():
@@ -108,7 +109,7 @@ def main():
     if sys.argv[1] == '--block':
         sys.stdout.write(block(sys.argv[2]))
         return 0
-    found = [*dump(), *listings(sys.argv[1]), *capacity(), *allowances(), *refusals()]
+    found = [*dump(), *printed(sys.argv[1], 'listing'), *printed(sys.argv[2], 'report'), *capacity(), *allowances(), *refusals()]
     kit()
     for fault in found:
         print(fault)

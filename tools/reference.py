@@ -1,7 +1,7 @@
 #!/usr/bin/env python3
-"""A second implementation of papers 01 and 02 (K1), for comparison: ring, dealing, opening, file writer, bundle reader, listing.
+"""A second implementation of papers 01 and 02 (K1, K2), for comparison: ring, dealing, opening, file writer, bundle reader, listing, mending.
 
-Without arguments this is the program `open`: a bundle on standard input, its listing on standard output.
+Without arguments this is the program `open`: a bundle on standard input, its listing on standard output. With `--mend` it prints what `mend` does.
 `--selftest` checks the paper's examples, and three ways of opening against each other.
 
 Opening goes other ways than the library's Newton interpolation and key equation:
@@ -537,7 +537,36 @@ def open_run(data, a, b):
     return open_shares(bundle.book, {i: bundle.total(i, a, b) for i in bundle.files}, bundle.e)
 
 
-# ---------------------------------------------------------------- the program
+# ---------------------------------------------------------------- mending (paper 02, K2)
+
+def mended_shares(bundle, place):
+    """ "Every wrong share replaced by its polynomial's value"; "a job that answers 5 or 6 keeps its bytes".
+
+    The right shares lie on the polynomial, and any t + 1 of them fix it.
+    """
+    book, shares = bundle.book, bundle.shares(place)
+    try:
+        _, wrong = open_shares(book, shares, bundle.e)
+    except Refused:
+        return shares
+    right = tuple(i for i in shares if i not in wrong)[:book.t + 1]
+    return {i: through(ring_of(book.k, book.d), shares, right, i) if i in wrong else share for i, share in shares.items()}
+
+
+def mended(data):
+    """The bytes of the mended bundle, written anew record by record, or the number with which the bundle is declined."""
+    try:
+        bundle = Bundle(data)
+    except Refused as refused:
+        return refused.number
+    book, archive, jobs = bundle.first
+    columns = [mended_shares(bundle, place) for place in range(jobs)]
+    return order(bundle.e) + b"".join(
+        heading(book, i, archive, jobs) + b"".join(job(number, column[i]) for number, column in zip(bundle.numbers, columns))
+        for i in bundle.files)
+
+
+# ---------------------------------------------------------------- the programs
 
 def joined(numbers):
     return ",".join(map(str, numbers)) or "-"
@@ -553,15 +582,38 @@ def job_line(bundle, place):
     return f"{bundle.numbers[place]} open {joined(wrong)} {joined(map(signed, words))}"
 
 
-def listing(data):
-    """What the program prints; "input that is too long gives 2 before any record is looked at"."""
+def change_lines(bundle, place):
+    """ "Each changed place as `10 holder 3`, by job and then by holder"; a job that keeps its bytes "is printed as `11 refused 6`". """
+    number = bundle.numbers[place]
+    try:
+        _, wrong = open_shares(bundle.book, bundle.shares(place), bundle.e)
+    except Refused as refused:
+        return [f"{number} refused {refused.number}"]
+    return [f"{number} holder {holder}" for holder in wrong]
+
+
+def text(data, head, lines_of):
+    """What a program prints: `head` and then the lines of each place, or `refused N` alone.
+
+    "Input that is too long gives 2 before any record is looked at."
+    """
     try:
         require(len(data) <= LONGEST_INPUT, 2)
         bundle = Bundle(data)
     except Refused as refused:
         return f"refused {refused.number}\n"
-    lines = [job_line(bundle, place) for place in range(len(bundle.numbers))]
-    return "".join(line + "\n" for line in ["job state wrong words"] + lines)
+    lines = [line for place in range(len(bundle.numbers)) for line in lines_of(bundle, place)]
+    return "".join(line + "\n" for line in head + lines)
+
+
+def listing(data):
+    """What `open` prints."""
+    return text(data, ["job state wrong words"], lambda bundle, place: [job_line(bundle, place)])
+
+
+def report(data):
+    """What `mend` prints. No first line is asked for, so a bundle in which nothing changes prints nothing."""
+    return text(data, [], change_lines)
 
 
 # ---------------------------------------------------------------- self-test
@@ -570,10 +622,11 @@ SAMPLE_BOOK = Book(3, 2, 3, 0)
 SAMPLE_JOBS = {10: [(5, 2), (5, 2), (1, 2)], 11: [(5, 2), (1, 2), (7, 2)]}
 
 
-def sample():
-    """The paper's input of 256 bytes."""
-    columns = zip(*SAMPLE_JOBS.values())
-    return order(1) + b"".join(write_file(SAMPLE_BOOK, holder, 7, list(SAMPLE_JOBS), sum(shares, ()))
+def sample(jobs=None):
+    """The paper's input of 256 bytes, perhaps with other shares."""
+    jobs = jobs or SAMPLE_JOBS
+    columns = zip(*jobs.values())
+    return order(1) + b"".join(write_file(SAMPLE_BOOK, holder, 7, list(jobs), sum(shares, ()))
                                for holder, shares in enumerate(columns, 1))
 
 
@@ -649,6 +702,27 @@ def test_bundle():
     with_cuts = [number_of(Bundle, data[:cut]) for cut in range(257)]
     assert [cut for cut, number in enumerate(with_cuts) if number == 0] == [90, 173, 256]
     assert set(with_cuts) == {0, 7}
+
+
+def test_mended():
+    """K2 on the paper's sample: one share replaced, job 11 as it was; wide words replaced whole; what is declined."""
+    data, new = sample(), sample({**SAMPLE_JOBS, 10: [(5, 2)] * 3})
+    assert report(data) == "10 holder 3\n11 refused 6\n" and mended(data) == new
+    assert report(new) == "11 refused 6\n" and mended(new) == new
+    assert listing(new) == "job state wrong words\n10 open - -3,2\n11 6 - -\n"
+    two_files = data[:173]  # too few for e = 1
+    assert report(two_files) == "10 refused 5\n11 refused 5\n" and mended(two_files) == two_files
+    right, wide = (5, 2), (5 + 8, 2**64 - 1)
+
+    def three(wrong):
+        return order(1) + b"".join(heading(SAMPLE_BOOK, i, 7, 1) + job(1, wide if i in wrong else right) for i in (1, 2, 3))
+
+    assert report(three([3])) == "1 holder 3\n" and mended(three([3])) == three([])
+    assert report(three([])) == "" and mended(three([])) == three([])
+    assert report(three([1, 2])) == "1 refused 6\n" and mended(three([1, 2])) == three([1, 2])
+    assert [mended(x) for x in (b"", sample()[:255], order(1) + heading(Book(3, 2, 3, 3), 1, 7, 0))] == [7, 7, 1]
+    assert report(b"") == "refused 7\n" and report(bytes(LONGEST_INPUT + 1)) == "refused 2\n"
+    assert report(order(255) + heading(SAMPLE_BOOK, 1, 7, 0)) == ""
 
 
 def random_element(rng, ring):
@@ -740,6 +814,25 @@ def test_large(rng):
                 assert open_shares(book, scaled, e) == (ring.mul(by, words), wrong)
 
 
+def test_mending(rng):
+    """Dealt jobs with at most e wrong shares are mended to what was dealt; one with more wide shares than that stays as it is."""
+    for book, e in ((Book(3, 2, 3, 0), 1), (Book(1, 3, 7, 2), 2), (Book(33, 4, 9, 2), 3), (Book(63, 6, 63, 20), 21), (Book(64, 5, 31, 0), 15)):
+        ring, changed, dealt, lines = ring_of(book.k, book.d), [], [], []
+        for number in range(4):
+            shares = deal(book, random_element(rng, ring), [random_element(rng, ring) for _ in range(book.t)])
+            lost = number == 2 and book.k < 64
+            wrong = sorted(rng.sample(sorted(shares), e + 1 if lost else rng.randint(0, e)))
+            other = {i: widened(rng, ring, shares[i], 1) if lost else ring.add(shares[i], (1 << rng.randrange(ring.k),) + ring.zero[1:])
+                     for i in wrong}
+            changed.append({**shares, **other})
+            dealt.append(changed[-1] if lost else shares)
+            lines += [f"{number} refused 6"] if lost else [f"{number} holder {i}" for i in wrong]
+        data, new = (order(e) + b"".join(
+            heading(book, i, 7, len(columns)) + b"".join(job(number, column[i]) for number, column in enumerate(columns))
+            for i in range(1, book.n + 1)) for columns in (changed, dealt))
+        assert mended(data) == new and report(data).splitlines() == lines
+
+
 def test_runs(rng):
     """The opened total of a run is the sum of its jobs, with the holders wrong in it named, and reads as the signed sum."""
     book, e, jobs = Book(32, 3, 6, 1), 2, 5
@@ -761,17 +854,21 @@ def selftest():
     test_marked()
     test_wide()
     test_bundle()
+    test_mended()
     test_ring(rng)
     test_runs(rng)
     seen = test_openings(rng, 6000)
     test_large(rng)
+    test_mending(rng)
     print("self-test passed; openings compared:", ", ".join(f"{count} {name}" for name, count in seen.items()))
 
 
 if __name__ == "__main__":
     if sys.argv[1:] == ["--selftest"]:
         selftest()
+    elif sys.argv[1:] == ["--mend"]:
+        sys.stdout.write(report(sys.stdin.buffer.read()))
     elif sys.argv[1:]:
-        sys.exit("usage: reference.py [--selftest] < bundle")
+        sys.exit("usage: reference.py [--selftest | --mend] < bundle")
     else:
         sys.stdout.write(listing(sys.stdin.buffer.read()))

@@ -354,6 +354,9 @@ static void refuses(uint8_t number, const uint8_t *bytes, size_t n) {
     DECLINES(number, yikes_file(bytes, n, SIZE_MAX, NULL, 0));
     DECLINES(number, yikes_list_line(bytes, n, 0, o.bytes, YIKES_LINE, SECOND));
     DECLINES(number, yikes_list_line(bytes, n, SIZE_MAX, NULL, 0, NULL, 0));
+    DECLINES(number, yikes_mend(bytes, n, o.bytes, n));
+    DECLINES(number, yikes_mend(bytes, n, NULL, 0));
+    DECLINES(number, yikes_mend(bytes, n, o.bytes, HUGE_LENGTH));
 }
 
 static void faults(void) {
@@ -620,6 +623,77 @@ static void openings(void) {
           "too few files");
 }
 
+/* Paper 02's example: in the bundle of 256 bytes holder 3's share of job 10 is replaced, and job 11, which declines, stays. */
+static void mending(void) {
+    const uint64_t job[2] = {5, 2}, none[1] = {0};
+    const size_t n = sizeof bundle;
+    uint8_t right[256], other[256], file[23], empty[30];
+
+    memcpy(right, bundle, n);
+    right[210] = 5;
+    GIVES(yikes_mend(bundle, n, o.bytes, n), now_bytes(right, n));
+    GIVES(yikes_mend(right, n, o.bytes, n), now_bytes(right, n));
+    GIVES(yikes_open_place(right, n, 0, OUT, SECOND), now_holds(job, 2, none, 1));
+    DECLINES(YIKES_NO_CODEWORD, yikes_open_place(right, n, 1, OUT, SECOND));
+    DECLINES(YIKES_LENGTH, yikes_mend(bundle, n, o.bytes, n - 1));
+    DECLINES(YIKES_LENGTH, yikes_mend(bundle, n, o.bytes, n + 1));
+    DECLINES(YIKES_LENGTH, yikes_mend(bundle, n, o.bytes, 2 * n));
+    DECLINES(YIKES_LENGTH, yikes_mend(bundle, n, NULL, 0));
+    DECLINES(YIKES_LENGTH, yikes_mend(bundle, n, o.bytes, HUGE_LENGTH));
+
+    /* a wide share is replaced whole, also where its low bits are right, and a wide word in a job that declines stays */
+    memcpy(other, bundle, n);
+    other[210] = 5, other[217] = 128, other[81] = 1, right[81] = 1;
+    GIVES(yikes_mend(other, n, o.bytes, n), now_bytes(right, n));
+    /* the first holder wrong in place of the third, in its second word */
+    memcpy(other, right, n);
+    other[52] = 3;
+    GIVES(yikes_mend(other, n, o.bytes, n), now_bytes(right, n));
+    /* two shares wrong, which is one more than the allowance; then an allowance for which the files are too few */
+    other[210] = 1;
+    GIVES(yikes_mend(other, n, o.bytes, n), now_bytes(other, n));
+    other[6] = 2;
+    GIVES(yikes_mend(other, n, o.bytes, n), now_bytes(other, n));
+    /* files cut off between two of them are a bundle too, and no jobs need no mending */
+    memcpy(other, bundle, n);
+    other[6] = 0;
+    GIVES(yikes_mend(other, 7 + 2 * FILE_BYTES, o.bytes, 7 + 2 * FILE_BYTES), now_bytes(other, 7 + 2 * FILE_BYTES));
+    DECLINES(YIKES_LENGTH, yikes_mend(other, 7 + 2 * FILE_BYTES, o.bytes, n));
+    check(yikes_write_file(BOOK, 0, 3, 7, NULL, 0, NULL, 0, file, 23) == YIKES_OK, __LINE__, "write_file");
+    check(yikes_write_bundle(1, file, 23, empty, 30) == YIKES_OK, __LINE__, "write_bundle");
+    GIVES(yikes_mend(empty, 30, o.bytes, 30), now_bytes(empty, 30));
+    DECLINES(YIKES_LENGTH, yikes_mend(empty, 30, o.bytes, 29));
+}
+
+/* All 63 files of the largest book with one job, 21 shares of it changed in the highest of 64 bits or in all words: mended, the files are as they
+ * were written. */
+static void mending_largest(uint64_t k) {
+    enum { SIZE = 23 + 14 + 8 * 6 };
+    static uint8_t right[7 + 63 * SIZE], wrong[sizeof right];
+    const uint64_t number[1] = {UINT64_MAX};
+    uint64_t job[6], coefficients[20 * 6], shares[63 * 6];
+    size_t i;
+    for (i = 0; i < 6; i++) job[i] = draw() >> (64 - k);
+    for (i = 0; i < COUNT(coefficients); i++) coefficients[i] = draw() >> (64 - k);
+    check(yikes_deal(k, 6, 63, 20, job, 6, coefficients, COUNT(coefficients), shares, COUNT(shares)) == YIKES_OK, __LINE__, "deal");
+    check(yikes_write_order(21, right, 7) == YIKES_OK, __LINE__, "write_order");
+    for (i = 0; i < 63; i++) {
+        check(yikes_write_file(k, 6, 63, 20, i + 1, 7, number, 1, shares + 6 * i, 6, right + 7 + i * SIZE, SIZE) == YIKES_OK, __LINE__, "write_file");
+    }
+    memcpy(wrong, right, sizeof right);
+    for (i = 1; i < 63; i += 3) {
+        uint8_t *share = wrong + 7 + i * SIZE + 37;
+        if (i % 2 == 0) share[8 * (i % 6) + 7] ^= 128;
+        else memset(share, (int)i, 8 * 6);
+    }
+    GIVES(yikes_mend(wrong, sizeof wrong, o.bytes, sizeof wrong), now_bytes(right, sizeof right));
+    GIVES(yikes_mend(right, sizeof right, o.bytes, sizeof right), now_bytes(right, sizeof right));
+    wrong[6] = 20;
+    GIVES(yikes_mend(wrong, sizeof wrong, o.bytes, sizeof wrong), now_bytes(wrong, sizeof wrong));
+    wrong[6] = 22;
+    GIVES(yikes_mend(wrong, sizeof wrong, o.bytes, sizeof wrong), now_bytes(wrong, sizeof wrong));
+}
+
 int main(void) {
     elements();
     sharing();
@@ -633,6 +707,10 @@ int main(void) {
     lone_files();
     reading();
     openings();
+    mending();
+    mending_largest(64);
+    mending_largest(63);
+    mending_largest(8);
     printf("%lu checks%s\n", checks, failures == 0 ? "" : ", of which some failed");
     return failures == 0 ? 0 : 1;
 }

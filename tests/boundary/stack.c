@@ -1,7 +1,7 @@
 /*
  * The stack that each call of include/yikescanvas.h uses, measured: each runs on a stack of its own that was painted before, with the largest
  * parameters at which a word can be wide (d 6, n 63, words of 63 bits), t 20 and 21 wrong shares where it opens, 11 of them wide where it opens one
- * job, and each prints its name and the bytes from the painted stack's top to the lowest one that changed, less what an empty call uses.
+ * job or mends, and each prints its name and the bytes from the painted stack's top to the lowest one that changed, less what an empty call uses.
  */
 #define _GNU_SOURCE
 #include <stdint.h>
@@ -42,6 +42,7 @@ static void open_run(void) { answer = yikes_open_run(bundle, sizeof bundle, 0, J
 static void fetch_body(void) { answer = yikes_fetch_body(bundle, sizeof bundle, N, 1, wrong, 2); }
 static void fetch_fault(void) { answer = yikes_fetch_fault(bundle, sizeof bundle, N, 1); }
 static void list_line(void) { answer = yikes_list_line(wide, sizeof wide, JOBS - 1, line, sizeof line, wrong, 1); }
+static void mend(void) { answer = yikes_mend(wide, sizeof wide, copy, sizeof copy); }
 
 static const struct {
     const char *name;
@@ -67,7 +68,8 @@ static const struct {
              {"yikes_open_run", open_run},
              {"yikes_fetch_body", fetch_body},
              {"yikes_fetch_fault", fetch_fault},
-             {"yikes_list_line", list_line}};
+             {"yikes_list_line", list_line},
+             {"yikes_mend", mend}};
 
 static uint64_t state = 7;
 static uint64_t draw(void) {

@@ -1,12 +1,12 @@
 #!/usr/bin/env python3
-"""pipes.py PROGRAM INPUT OUTPUT: the program on pipes that are not ready at once, or whose reader goes away. Prints the cases that fail."""
+"""pipes.py NAME PROGRAM INPUT OUTPUT: the program on pipes that are not ready at once, or whose reader goes away. Prints the cases that fail."""
 import fcntl
 import os
 import subprocess
 import sys
 import time
 
-PROGRAM, INPUT, OUTPUT = sys.argv[1:4]
+NAME, PROGRAM, INPUT, OUTPUT = sys.argv[1:5]
 with open(INPUT, 'rb') as file:
     GIVEN = file.read()
 with open(OUTPUT, 'rb') as file:
@@ -19,7 +19,7 @@ def check(name, good):
     global failed
     if not good:
         failed += 1
-        print('faults: %s' % name)
+        print('faults: %s: %s' % (NAME, name))
 
 
 def start(source, sink):
@@ -74,14 +74,14 @@ text = read_slowly(answers, len(WANTED) + 1)
 check('a slow writer is waited for', text == WANTED and program.communicate()[1] == b'' and program.returncode == 0)
 os.close(answers)
 
-# readers that go away, at once and after some bytes
-for count in (0, 1, 22, 5000):
+# readers that go away, at once, within the first line, after it and later
+for count in (0, 1, WANTED.index(b'\n') + 1, 5000):
     source, sink = small_pipe()
     program = start(given(), sink)
     text = read_slowly(source, count)
     os.close(source)
     said = program.communicate()[1]
     check('a reader that goes away after %d bytes is told of' % count,
-          text == WANTED[:count] and said.startswith(b'open: standard output: ') and program.returncode == 0)
+          text == WANTED[:count] and said.startswith(b'%s: standard output: ' % NAME.encode()) and program.returncode == 0)
 
 sys.exit(1 if failed else 0)

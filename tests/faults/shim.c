@@ -1,6 +1,6 @@
-/* Loaded before the C library (LD_PRELOAD), it answers the program's read of descriptor 0 and write of descriptor 1 as the variables READS and
-   WRITES say, a word for each call: N moves at most N bytes, eN fails with the error number N, * starts again at the first word. After the last
-   word the calls are the system's own. */
+/* Loaded before the C library (LD_PRELOAD), it answers the program's read of descriptor 0, write of descriptor 1, write of a descriptor that the
+   program opened, and fsync as the variables READS, WRITES, SAVES and SYNCS say, a word for each call: N moves at most N bytes, eN fails with the
+   error number N, * starts again at the first word. After the last word the calls are the system's own. */
 #define _GNU_SOURCE
 #include <errno.h>
 #include <stdlib.h>
@@ -11,7 +11,7 @@ struct script {
     const char *name, *words, *at;
 };
 
-static struct script reads = {"READS", 0, 0}, writes = {"WRITES", 0, 0};
+static struct script reads = {"READS", 0, 0}, writes = {"WRITES", 0, 0}, saves = {"SAVES", 0, 0}, syncs = {"SYNCS", 0, 0};
 
 static ssize_t answer(struct script *s, long call, int fd, void *bytes, size_t count)
 {
@@ -45,5 +45,11 @@ ssize_t read(int fd, void *bytes, size_t count)
 
 ssize_t write(int fd, const void *bytes, size_t count)
 {
-    return fd == 1 ? answer(&writes, SYS_write, fd, (void *)bytes, count) : syscall(SYS_write, fd, bytes, count);
+    struct script *s = fd == 1 ? &writes : &saves;
+    return fd == 2 ? syscall(SYS_write, fd, bytes, count) : answer(s, SYS_write, fd, (void *)bytes, count);
+}
+
+int fsync(int fd)
+{
+    return (int)answer(&syncs, SYS_fsync, fd, 0, 0);
 }

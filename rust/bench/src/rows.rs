@@ -3,6 +3,7 @@
 use compare::library;
 use compare::random::Random;
 use plain::{Params, Refusal};
+use std::cell::RefCell;
 use std::hint::black_box;
 
 #[derive(Clone, Copy, PartialEq, Eq)]
@@ -66,10 +67,12 @@ const BOOKS: [Book; 3] = [
     Book { p: Params { k: 64, d: 6, n: 63, t: 20 }, e: 21 },
 ];
 
-/// Different inputs of a row that opens or deals; jobs in a bundle whose places are opened, and in one that is accepted or added up.
+/// Different inputs of a row that opens or deals; jobs in a bundle whose places are opened, and in one that is accepted or added up; the most bytes
+/// of a bundle that is mended, which are those that the programs take.
 const INPUTS: usize = 16;
 const PLACES: usize = 16;
 const JOBS: usize = 100;
+const MOST_INPUT: usize = 65_536;
 
 #[derive(Clone, Copy)]
 enum Damage {
@@ -78,22 +81,33 @@ enum Damage {
     Wide,
 }
 
+/// Whose shares are wrong in the jobs of a bundle: nobody's, or as many as the allowance, of the same holders in each job or of others.
+#[derive(Clone, Copy)]
+enum Wrong {
+    Nobody,
+    Same,
+    Different,
+}
+
 fn number(answer: Result<(), Refusal>) -> u8 {
     answer.map_or_else(|refusal| refusal as u8, |()| 0)
 }
 
-const ROWS: [(&str, usize, Make); 11] = [
+const ROWS: [(&str, usize, Make); 14] = [
     ("deal", INPUTS, dealing),
     ("open, none wrong", INPUTS, |random, book| opening(random, book, None)),
     ("open, e wrong in any bits", INPUTS, |random, book| opening(random, book, Some(Damage::AnyBits))),
     ("open, e wrong in the top bit", INPUTS, |random, book| opening(random, book, Some(Damage::TopBit))),
     ("open, e wide", INPUTS, |random, book| opening(random, book, Some(Damage::Wide))),
-    ("open all places, same holders wrong", PLACES, |random, book| places(random, book, true)),
-    ("open all places, different holders wrong", PLACES, |random, book| places(random, book, false)),
+    ("open all places, same holders wrong", PLACES, |random, book| places(random, book, Wrong::Same)),
+    ("open all places, different holders wrong", PLACES, |random, book| places(random, book, Wrong::Different)),
     ("accept", 1, accepting),
     ("accept, beside the sum of the bytes", 1, accepting_beside_checksum),
     ("total of one file", 1, total),
     ("open a run", 1, run),
+    ("mend, none wrong", 1, |random, book| mending(random, book, Wrong::Nobody)),
+    ("mend, e wrong in each job", 1, |random, book| mending(random, book, Wrong::Different)),
+    ("mend, e wrong in each job, beside the listing", 1, mending_beside_listing),
 ];
 
 pub fn all() -> Vec<Row> {
@@ -177,14 +191,16 @@ fn opening(random: &mut Random, book: Book, kind: Option<Damage>) -> Work {
     Work { out: vec![0; INPUTS * (p.d + 2)], call }
 }
 
-/// A bundle of all holders' files, e of them wrong in each job: the same ones, or different ones.
-fn bundle(random: &mut Random, book: Book, jobs: usize, same: bool) -> Vec<u8> {
+/// A bundle of all holders' files.
+fn bundle(random: &mut Random, book: Book, jobs: usize, who: Wrong) -> Vec<u8> {
     let Book { p, e } = book;
     let mut files = vec![vec![]; p.n];
     let mut wrong = holders(random, book);
     for _ in 0..jobs {
-        if !same {
-            wrong = holders(random, book);
+        match who {
+            Wrong::Nobody => wrong.clear(),
+            Wrong::Same => {}
+            Wrong::Different => wrong = holders(random, book),
         }
         let mut shares = deal(random, p);
         damage(random, book, &wrong, Damage::AnyBits, &mut shares);
@@ -201,9 +217,9 @@ fn bundle(random: &mut Random, book: Book, jobs: usize, same: bool) -> Vec<u8> {
     bytes
 }
 
-fn places(random: &mut Random, book: Book, same: bool) -> Work {
+fn places(random: &mut Random, book: Book, who: Wrong) -> Work {
     let d = book.p.d;
-    let bytes = bundle(random, book, PLACES, same);
+    let bytes = bundle(random, book, PLACES, who);
     let call: Call = Box::new(move |side, out| {
         for (place, result) in out.chunks_mut(d + 2).enumerate() {
             let (answer, wrong, words) = parts(result);
@@ -217,7 +233,7 @@ fn places(random: &mut Random, book: Book, same: bool) -> Work {
 }
 
 fn accepting(random: &mut Random, book: Book) -> Work {
-    let bytes = bundle(random, book, JOBS, true);
+    let bytes = bundle(random, book, JOBS, Wrong::Same);
     let call: Call = Box::new(move |side, out| {
         out[0] = u64::from(match side {
             Side::Library => library::accept(&bytes),
@@ -229,7 +245,7 @@ fn accepting(random: &mut Random, book: Book) -> Work {
 
 /// The column of plain Rust is the sum of all bytes here.
 fn accepting_beside_checksum(random: &mut Random, book: Book) -> Work {
-    let bytes = bundle(random, book, JOBS, true);
+    let bytes = bundle(random, book, JOBS, Wrong::Same);
     let call: Call = Box::new(move |side, out| {
         out[0] = u64::from(match side {
             Side::Library => library::accept(&bytes),
@@ -244,7 +260,7 @@ fn accepting_beside_checksum(random: &mut Random, book: Book) -> Work {
 
 fn total(random: &mut Random, book: Book) -> Work {
     let Params { d, n, .. } = book.p;
-    let bytes = bundle(random, book, JOBS, true);
+    let bytes = bundle(random, book, JOBS, Wrong::Same);
     let call: Call = Box::new(move |side, out| {
         match side {
             Side::Library => library::total(&bytes, n, 0, JOBS, out),
@@ -255,7 +271,7 @@ fn total(random: &mut Random, book: Book) -> Work {
 }
 
 fn run(random: &mut Random, book: Book) -> Work {
-    let bytes = bundle(random, book, JOBS, true);
+    let bytes = bundle(random, book, JOBS, Wrong::Same);
     let call: Call = Box::new(move |side, out| {
         let (answer, wrong, words) = parts(out);
         *answer = u64::from(match side {
@@ -264,4 +280,60 @@ fn run(random: &mut Random, book: Book) -> Work {
         });
     });
     Work { out: vec![0; book.p.d + 2], call }
+}
+
+/// The largest bundle that the programs take.
+fn largest(random: &mut Random, book: Book, who: Wrong) -> Vec<u8> {
+    let Params { d, n, .. } = book.p;
+    bundle(random, book, ((MOST_INPUT - 7) / n - 23) / (14 + 8 * d), who)
+}
+
+/// The first bytes of the output.
+fn as_bytes(out: &mut [u64], length: usize) -> &mut [u8] {
+    // SAFETY: every eight bytes are a word, and every word eight bytes.
+    let (_, bytes, _) = unsafe { out.align_to_mut() };
+    &mut bytes[..length]
+}
+
+fn mending(random: &mut Random, book: Book, who: Wrong) -> Work {
+    let bytes = largest(random, book, who);
+    let out = vec![0; bytes.len().div_ceil(8)];
+    let call: Call = Box::new(move |side, out| {
+        let mended = as_bytes(out, bytes.len());
+        match side {
+            Side::Library => library::mend(&bytes, mended),
+            Side::Plain => number(plain::mend(&bytes, mended)),
+        };
+    });
+    Work { out, call }
+}
+
+/// The bundle of the job at a place alone, from one with so many jobs.
+fn lone(bytes: &[u8], d: usize, jobs: usize, place: usize) -> Vec<u8> {
+    let (order, files) = bytes.split_at(7);
+    let mut lone = order.to_vec();
+    for file in files.chunks(23 + jobs * (14 + 8 * d)) {
+        lone.extend(&file[..19]);
+        lone.extend(1u32.to_le_bytes());
+        lone.extend(&file[23 + place * (14 + 8 * d)..][..14 + 8 * d]);
+    }
+    lone
+}
+
+/// The column of plain Rust is the library's listing of the same jobs here. Each has a bundle of its own: a call for a line first reads all of its
+/// bundle, and the programs read theirs once.
+fn mending_beside_listing(random: &mut Random, book: Book) -> Work {
+    let Params { d, n, .. } = book.p;
+    let bytes = largest(random, book, Wrong::Different);
+    let jobs = ((bytes.len() - 7) / n - 23) / (14 + 8 * d);
+    let lones: Vec<Vec<u8>> = (0..jobs).map(|place| lone(&bytes, d, jobs, place)).collect();
+    let buffers = RefCell::new((vec![0; bytes.len()], [0; second::LINE], [0]));
+    let call: Call = Box::new(move |side, out| {
+        let (mended, line, length) = &mut *buffers.borrow_mut();
+        out[0] = match side {
+            Side::Library => library::mend(&bytes, mended).into(),
+            Side::Plain => lones.iter().map(|lone| u64::from(library::list_line(lone, 0, line, length))).sum(),
+        };
+    });
+    Work { out: vec![0], call }
 }

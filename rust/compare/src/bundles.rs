@@ -1,6 +1,7 @@
 //! Bundles, valid, damaged and faulty, and every call on them.
 
 use crate::library;
+use crate::mending;
 use crate::openings::damage;
 use crate::outcome::{number, on_bytes, on_words, Answers};
 use crate::random::Random;
@@ -46,7 +47,8 @@ pub fn bundle(random: &mut Random, answers: &mut Answers) -> Result<(), String> 
     description_calls(random, answers, &written, &bytes)?;
     reads(random, answers, &written, &bytes)?;
     lone_file(random, answers, &written, &bytes)?;
-    rewrite(random, answers, &bytes)
+    rewrite(random, answers, &bytes)?;
+    mending::mend(random, answers, &bytes)
 }
 
 /// Mostly a good number below `bound`, otherwise one at its edge or beyond.
@@ -67,7 +69,7 @@ fn length(random: &mut Random, right: usize) -> usize {
 }
 
 /// Whether a word of the jobs at these places is wide, in a bundle that is accepted.
-fn wide(bytes: &[u8], places: Range<usize>) -> bool {
+pub(crate) fn wide(bytes: &[u8], places: Range<usize>) -> bool {
     second::read_bundle(bytes).is_ok_and(|bundle| {
         let (ring, jobs) = (bundle.params().ring(), bundle.files.iter().filter_map(|file| file.jobs.get(places.clone())));
         jobs.flatten().any(|job| !ring.in_width(&job.words))

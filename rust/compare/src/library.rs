@@ -105,6 +105,10 @@ pub fn list_line(bundle: &[u8], place: usize, line: &mut [u8], length: &mut [u64
     }
 }
 
+pub fn mend(bundle: &[u8], out: &mut [u8]) -> u8 {
+    unsafe { yikes_mend(bundle.as_ptr(), bundle.len(), out.as_mut_ptr(), out.len()) }
+}
+
 pub fn signed(k: u64, w: u64, out: &mut [u64]) -> u8 {
     unsafe { yikes_signed(k, w, out.as_mut_ptr(), out.len()) }
 }

@@ -7,7 +7,7 @@ use std::fmt::{Debug, Display, Formatter};
 /// What stands in every buffer before a call.
 pub const POISON: u64 = 0xa5a5_a5a5_a5a5_a5a5;
 
-/// How often each call gave each answer; an opening is counted apart where a word of it is wide.
+/// How often each call gave each answer; an opening is counted apart where a word of it is wide, and mending by what it did.
 #[derive(Default)]
 pub struct Answers(BTreeMap<&'static str, [u64; 10]>);
 

@@ -1,8 +1,8 @@
 //! Calls on a bundle. Each reads it all first; after that every record stands at a computed position.
 
-use crate::decode::Shares;
-use crate::ring::{add, mask, Element};
-use crate::{demand, in_width, open_shares, Params, Refusal};
+use crate::decode::{decode, Shares};
+use crate::ring::{add, eval, mask, Element};
+use crate::{demand, enough, in_width, open_shares, Params, Refusal};
 use std::array::from_fn;
 use std::ops::Range;
 use std::slice::ChunksExact;
@@ -28,6 +28,10 @@ fn word(bytes: &[u8]) -> u64 {
 /// The words of a job's record.
 fn words<const D: usize>(record: &[u8]) -> Element<D> {
     from_fn(|j| word(&record[14 + 8 * j..22 + 8 * j]))
+}
+
+fn put_words<const D: usize>(record: &mut [u8], words: Element<D>) {
+    record[14..].chunks_exact_mut(8).zip(words).for_each(|(bytes, w)| bytes.copy_from_slice(&w.to_le_bytes()));
 }
 
 /// All words together, bit by bit.
@@ -116,10 +120,25 @@ impl<'a> Bundle<'a> {
         self.bytes[self.start(file) + 10].into()
     }
 
-    /// The words of the job at a place of a file, as they stand.
-    fn job<const D: usize>(&self, file: usize, place: usize) -> Element<D> {
+    fn allowance(&self) -> u64 {
+        self.bytes[6].into()
+    }
+
+    /// Where the record of the job at a place of a file stands.
+    fn record<const D: usize>(&self, file: usize, place: usize) -> Range<usize> {
         let at = self.start(file) + HEADING_SIZE + place * job_size(D);
-        words(&self.bytes[at..at + job_size(D)])
+        at..at + job_size(D)
+    }
+
+    /// Puts in the shares of the job at a place, as they stand, and tells whether no word of them is wide.
+    fn load<const D: usize, const N: usize>(&self, place: usize, shares: &mut Shares<D, N>) -> bool {
+        let mut seen = 0;
+        for file in 0..self.files {
+            let words = words(&self.bytes[self.record::<D>(file, place)]);
+            seen = together(seen, &words);
+            shares.push(self.holder(file), words);
+        }
+        in_width(self.heading.params.k, &[seen])
     }
 
     /// The sum of a file's jobs at the places of a run, if their words are in width.
@@ -144,14 +163,8 @@ impl<'a> Bundle<'a> {
 
     fn open_place<const D: usize, const N: usize>(&self, place: usize, out: &mut [u64], wrong: &mut [u64]) -> Result<(), Refusal> {
         let mut shares = Shares::<D, N>::new();
-        let mut seen = 0;
-        for file in 0..self.files {
-            let words = self.job(file, place);
-            seen = together(seen, &words);
-            shares.push(self.holder(file), words);
-        }
-        let p = self.heading.params;
-        open_shares(p, shares, in_width(p.k, &[seen]), self.bytes[6].into(), out, wrong)
+        let narrow = self.load(place, &mut shares);
+        open_shares(self.heading.params, shares, narrow, self.allowance(), out, wrong)
     }
 
     fn open_run<const D: usize, const N: usize>(&self, run: Range<usize>, out: &mut [u64], wrong: &mut [u64]) -> Result<(), Refusal> {
@@ -159,7 +172,22 @@ impl<'a> Bundle<'a> {
         for file in 0..self.files {
             shares.push(self.holder(file), self.total(file, run.clone())?);
         }
-        open_shares(self.heading.params, shares, true, self.bytes[6].into(), out, wrong)
+        open_shares(self.heading.params, shares, true, self.allowance(), out, wrong)
+    }
+
+    /// Puts the values at the wrong holders' points over their words, in a copy of the bundle, which has enough files. A job without a codeword stays.
+    fn mend<const D: usize, const N: usize>(&self, out: &mut [u8]) {
+        let Params { k, t, .. } = self.heading.params;
+        let mut q = [[0; D]; N];
+        for place in 0..self.heading.jobs {
+            let mut shares = Shares::<D, N>::new();
+            let narrow = self.load(place, &mut shares);
+            let wrong = decode(k, t, &mut shares, narrow, self.allowance() as u32, &mut q).unwrap_or(0);
+            for file in (0..self.files).filter(|f| wrong >> (self.holder(*f) - 1) & 1 == 1) {
+                let value = eval(&q[..=t], self.holder(file)).map(|w| w & mask(k));
+                put_words(&mut out[self.record::<D>(file, place)], value);
+            }
+        }
     }
 
     fn lengths(&self, out: &[u64], wrong: &[u64]) -> Result<(), Refusal> {
@@ -191,4 +219,16 @@ pub fn total(bytes: &[u8], holder: usize, a: usize, b: usize, out: &mut [u64]) -
     demand(out.len() == bundle.heading.params.d, Refusal::Length)?;
     demand(a <= b && b <= bundle.heading.jobs, Refusal::OutOfRange)?;
     for_d!(bundle.heading.params.d, bundle.write_total::<D>(file, a..b, out))
+}
+
+/// The bundle with every wrong share replaced, into an output of its length.
+pub fn mend(bytes: &[u8], out: &mut [u8]) -> Result<(), Refusal> {
+    let bundle = Bundle::read(bytes)?;
+    demand(out.len() == bytes.len(), Refusal::Length)?;
+    out.copy_from_slice(bytes);
+    // Every job has as many shares as there are files.
+    if enough(bundle.heading.params, bundle.files, bundle.allowance()).is_ok() {
+        for_d!(bundle.heading.params.d, bundle.mend::<D, { 1 << D }>(out));
+    }
+    Ok(())
 }

@@ -72,11 +72,12 @@ struct Left<const D: usize, const N: usize> {
     bits: u64,
 }
 
-/// Newton's interpolation through the first t + 1 shares.
-fn interpolate<const D: usize, const N: usize>(k: u64, t: usize, shares: &Shares<D, N>) -> [Element<D>; N] {
-    let (mut q, mut nodal) = ([[0; D]; N], [[0; D]; N]);
+/// Newton's interpolation through as many of the first shares as there are rows.
+fn interpolate<const D: usize, const N: usize>(k: u64, shares: &Shares<D, N>, q: &mut [Element<D>]) {
+    let mut nodal = [[0; D]; N];
     nodal[0] = integer(1);
-    for (len, (x, y)) in shares.iter().take(t + 1).enumerate() {
+    q.fill([0; D]);
+    for (len, (x, y)) in shares.iter().take(q.len()).enumerate() {
         let gap = sub(y, eval(&q[..len], x));
         let c = mul(gap, inverse(k, eval(&nodal[..=len], x)));
         for (a, b) in q[..=len].iter_mut().zip(&nodal) {
@@ -88,7 +89,6 @@ fn interpolate<const D: usize, const N: usize>(k: u64, t: usize, shares: &Shares
             (below, *a) = (*a, sub(below, times));
         }
     }
-    q
 }
 
 /// The polynomial goes through the first t + 1 shares, so nothing is left of them.
@@ -115,15 +115,16 @@ fn slice<const D: usize>(rows: &[Element<D>], v: u32) -> Slice<D> {
     slice
 }
 
-/// The free term of the codeword, not cut to k bits, and the set of wrong holders. There are at least t + 1 + 2 e shares, and `narrow` tells
-/// that no word of them is wide, which saves looking.
+/// The set of wrong holders; the coefficients of the codeword, not cut to k bits, are the first t + 1 rows of `q`. There are at least t + 1 + 2 e
+/// shares, and `narrow` tells that no word of them is wide, which saves looking.
 pub fn decode<const D: usize, const N: usize>(
     k: u64,
     t: usize,
     shares: &mut Shares<D, N>,
     narrow: bool,
     e: u32,
-) -> Option<(Element<D>, u64)> {
+    q: &mut [Element<D>; N],
+) -> Option<u64> {
     let (mut bound, mut wrong) = (e, 0);
     if !narrow {
         let lanes = shares.wide_lanes(k);
@@ -131,10 +132,10 @@ pub fn decode<const D: usize, const N: usize>(
         wrong = shares.drop_lanes(lanes);
     }
     loop {
-        let q = interpolate(k, t, shares);
+        interpolate(k, shares, &mut q[..=t]);
         let left = compare(k, t, &q[..=t], shares);
         if left.lanes.count_ones() <= bound {
-            return Some((q[0], wrong | shares.drop_lanes(left.lanes)));
+            return Some(wrong | shares.drop_lanes(left.lanes));
         }
         let values = slice(&left.words[..shares.len()], left.bits.trailing_zeros());
         let lanes = differing(t, shares.len(), shares.points(), values)?;

@@ -24,7 +24,7 @@ mod decode;
 mod field;
 mod ring;
 
-pub use bundle::{accept, open_place, open_run, total};
+pub use bundle::{accept, mend, open_place, open_run, total};
 pub use second::{Params, Refusal};
 
 use decode::{decode, Shares};
@@ -86,6 +86,11 @@ fn open_lent<const D: usize, const N: usize>(
     open_shares(p, shares, in_width(p.k, words), e, out, wrong)
 }
 
+/// Whether m shares are at least t + 1 + 2 e.
+pub(crate) fn enough(p: Params, m: usize, e: u64) -> Result<(), Refusal> {
+    demand(m > p.t && e <= ((m - p.t - 1) / 2) as u64, Refusal::TooFewShares)
+}
+
 /// Opens shares, of which `narrow` tells that no word is wide.
 pub(crate) fn open_shares<const D: usize, const N: usize>(
     p: Params,
@@ -95,9 +100,9 @@ pub(crate) fn open_shares<const D: usize, const N: usize>(
     out: &mut [u64],
     wrong: &mut [u64],
 ) -> Result<(), Refusal> {
-    demand(shares.len() > p.t && e <= ((shares.len() - p.t - 1) / 2) as u64, Refusal::TooFewShares)?;
-    let (secret, set) = decode(p.k, p.t, &mut shares, narrow, e as u32).ok_or(Refusal::NoCodeword)?;
-    out.copy_from_slice(&secret.map(|w| w & mask(p.k)));
-    wrong[0] = set;
+    enough(p, shares.len(), e)?;
+    let mut q = [[0; D]; N];
+    wrong[0] = decode(p.k, p.t, &mut shares, narrow, e as u32, &mut q).ok_or(Refusal::NoCodeword)?;
+    out.copy_from_slice(&q[0].map(|w| w & mask(p.k)));
     Ok(())
 }

@@ -135,3 +135,15 @@ fn bundles() {
         assert_eq!((answers[0], &results[0]), (answers[1], &results[1]), "{bytes:?}");
     }
 }
+
+#[test]
+fn mending() {
+    let mut random = Random(3);
+    for i in 0..1000 {
+        let (_, bytes) = bundle(&mut random);
+        let length = bytes.len() + usize::from(i % 8 == 0);
+        let mut mended = [vec![7; length], vec![7; length]];
+        let answers = [plain::mend(&bytes, &mut mended[0]), second::mend(&bytes, &mut mended[1])];
+        assert_eq!((answers[0], &mended[0]), (answers[1], &mended[1]), "{bytes:?}");
+    }
+}

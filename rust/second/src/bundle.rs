@@ -24,10 +24,14 @@ impl Bundle {
         self.files.iter().find(|f| f.heading.holder == holder).ok_or(Refusal::Holder)
     }
 
+    /// The shares of the job at a place that the bundle has.
+    pub(crate) fn shares(&self, place: usize) -> Vec<Share> {
+        self.files.iter().map(|f| share(f.heading.holder, &f.jobs[place].words)).collect()
+    }
+
     /// The job at a place that the bundle has.
     pub(crate) fn open(&self, place: usize) -> Result<Opened, Refusal> {
-        let shares: Vec<Share> = self.files.iter().map(|f| share(f.heading.holder, &f.jobs[place].words)).collect();
-        open_shares(self.params(), self.e.into(), &shares)
+        open_shares(self.params(), self.e.into(), &self.shares(place))
     }
 
     /// The sum of a file's shares over a run that the bundle has.

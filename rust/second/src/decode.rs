@@ -69,7 +69,7 @@ fn next_subset(chosen: &mut [usize], m: usize) -> bool {
 }
 
 /// The polynomial through the shares, modulo 2^k, by Lagrange's formula.
-fn lagrange(ring: &Ring, shares: &[Share]) -> Vec<Element> {
+pub(crate) fn lagrange(ring: &Ring, shares: &[Share]) -> Vec<Element> {
     let mut nodal = vec![ZERO; shares.len() + 1];
     nodal[0][0] = 1;
     for share in shares {

@@ -124,6 +124,54 @@ fn a_wide_word_in_a_place_and_in_a_run() {
     assert_eq!(total(&bundle, 2, 0, 1, &mut out), Ok(()));
 }
 
+/// Paper 02, K2, on the example: holder 3's share of job 10 is replaced, and job 11, which declines, keeps its bytes.
+#[test]
+fn the_example_mended_k2() {
+    let bundle = example_bundle();
+    let (mut right, mut out) = (bundle.clone(), vec![77; 256]);
+    right[173 + 23 + 14] = 5;
+    for bytes in [&bundle, &right] {
+        mend(bytes, &mut out).unwrap();
+        assert_eq!(out, right);
+    }
+    assert_eq!([report(&bundle), report(&right)], ["10 holder 3\n11 refused 6\n", "11 refused 6\n"]);
+    let (mut words, mut wrong) = ([77; 2], [88]);
+    open_place(&right, 0, &mut words, &mut wrong).unwrap();
+    assert_eq!((words, wrong), ([5, 2], [0]));
+    // holder 1's file three times: lines come by job and then by holder, and a wide share is replaced whole
+    let mut same = [&bundle[..90], &bundle[7..90], &bundle[7..90]].concat();
+    (same[90 + 10], same[173 + 10]) = (2, 3);
+    let mut other = same.clone();
+    (other[173 + 37], other[90 + 67 + 7]) = (0, 9);
+    assert_eq!([report(&other), report(&same)], ["10 holder 3\n11 holder 2\n", ""]);
+    mend(&other, &mut out).unwrap();
+    assert_eq!(out, same);
+}
+
+/// A declined bundle and then a wrong length, the output as it was; the program's limit comes first.
+#[test]
+fn mending_declined_k2() {
+    let bundle = example_bundle();
+    let decline = |bytes: &[u8], length: usize| {
+        let mut out = vec![77; length];
+        let answer = mend(bytes, &mut out);
+        assert!(answer.is_ok() || out.iter().all(|b| *b == 77));
+        answer.err().map(|refusal| refusal as u8)
+    };
+    assert_eq!([0, 255, 256, 257].map(|length| decline(&bundle, length)), [Some(2), Some(2), None, Some(2)]);
+    for (at, byte, number) in [(0, 4, 7), (13, 0, 1), (17, 4, 4), (101, 8, 8)] {
+        let mut faulty = bundle.clone();
+        faulty[at] = byte;
+        assert_eq!([0, 256].map(|length| decline(&faulty, length)), [Some(number); 2]);
+        assert_eq!(report(&faulty), format!("refused {number}\n"));
+    }
+    assert_eq!([report(&[]), report(&[3; 65_536]), report(&[3; 65_537])], ["refused 7\n", "refused 7\n", "refused 2\n"]);
+    // no jobs: nothing to print, nothing to change
+    let mut empty = bundle[..30].to_vec();
+    empty[26] = 0;
+    assert_eq!((report(&empty).as_str(), decline(&empty, 30)), ("", None));
+}
+
 #[test]
 fn ranges_of_a_book() {
     let p = |n, t| Params { k: 64, d: 4, n, t }.check();

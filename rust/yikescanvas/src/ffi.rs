@@ -54,4 +54,5 @@ extern "C" {
     pub fn yikes_list_line(
         bundle: *const u8, bundle_length: usize, place: usize, line: *mut u8, line_length: usize, length: *mut u64, length_length: usize,
     ) -> c_uchar;
+    pub fn yikes_mend(bundle: *const u8, bundle_length: usize, out: *mut u8, out_length: usize) -> c_uchar;
 }

@@ -397,3 +397,10 @@ pub fn list_line(bundle: &[u8], place: usize, line: &mut [u8]) -> Result<usize, 
     })?;
     Ok(length[0] as usize)
 }
+
+/// Mends a bundle: `out`, of the bundle's length, becomes the bundle with the words of each wrong share, as [`open_place`] names them, replaced by
+/// the value of the job's polynomial at its holder's point. A job that does not open keeps its words, and every other byte stays, so that
+/// [`files`] tells where each holder's file stands in both. A job that opens in the bundle opens in `out` to the same words, and names nobody.
+pub fn mend(bundle: &[u8], out: &mut [u8]) -> Result<(), Refusal> {
+    told(unsafe { ffi::yikes_mend(bundle.as_ptr(), bundle.len(), out.as_mut_ptr(), out.len()) })
+}

@@ -224,6 +224,9 @@ fn refuses(expected: Refusal, bytes: &[u8]) {
     for n in [0, LINE] {
         declines_bytes(expected, n, |o| list_line(bytes, usize::MAX, o));
     }
+    for n in [0, bytes.len(), 300] {
+        declines_bytes(expected, n, |o| mend(bytes, o));
+    }
 }
 
 #[test]
@@ -372,4 +375,72 @@ fn bundles() {
     few[6] = 2;
     declines(Refusal::TooFewShares, 2, |o| open_place(&few, 0, o));
     declines(Refusal::TooFewShares, 2, |o| open_run(&few, 0, 0, o));
+}
+
+fn mended(bytes: &[u8]) -> Vec<u8> {
+    let mut out = vec![0xa5; bytes.len()];
+    assert_eq!(mend(bytes, &mut out), Ok(()));
+    out
+}
+
+/// Paper 02's sample: holder 3's share of job 10 is replaced, and job 11, which declines, stays.
+#[test]
+fn mending() {
+    let bundle = bundle();
+    let mut right = bundle.clone();
+    right[210] = 5;
+    assert_eq!(mended(&bundle), right);
+    assert_eq!(mended(&right), right);
+    let mut out = [0; 2];
+    assert_eq!(open_place(&right, 0, &mut out), Ok(0));
+    assert_eq!(out, [5, 2]);
+    declines(Refusal::NoCodeword, 2, |o| open_place(&right, 1, o));
+    for n in [0, 1, 255, 257, 512] {
+        declines_bytes(Refusal::Length, n, |o| mend(&bundle, o));
+    }
+    // a wide share is replaced whole, also where its low bits are right, and stays in a job that declines
+    let mut wide = bundle.clone();
+    (wide[210], wide[217], wide[81]) = (5, 128, 1);
+    right[81] = 1;
+    assert_eq!(mended(&wide), right);
+    // with an allowance of 2 the files are too few, and with a second wrong share the allowance is
+    for (at, value) in [(6, 2), (44, 4)] {
+        let mut kept = bundle.clone();
+        kept[at] = value;
+        assert_eq!(mended(&kept), kept);
+    }
+    // no jobs: nothing to mend
+    let mut file = [0; 23];
+    write_file(FLAT, 3, 7, &[], &[], &mut file).unwrap();
+    let mut empty = [0; 30];
+    write_bundle(1, &file, &mut empty).unwrap();
+    assert_eq!(mended(&empty), empty);
+}
+
+/// Files that were written, two shares of each job changed since, one in all its bits and one to a wide word: mended they are as they were written.
+#[test]
+fn mending_gives_the_written_files() {
+    const SEVEN: Params = Params { k: 5, d: 3, n: 7, t: 2 };
+    let (mut shares, mut words) = ([0; 21], vec![vec![]; 7]);
+    for job in 0..4 {
+        deal(SEVEN, &[job, 31, 8], &[3, job, 30, 17, 0, 9], &mut shares).unwrap();
+        words.iter_mut().zip(shares.chunks(3)).for_each(|(all, share)| all.extend(share));
+    }
+    let size = file_size(SEVEN, 4).unwrap();
+    let mut files = vec![0; 7 * size];
+    for (i, file) in files.chunks_mut(size).enumerate() {
+        write_file(SEVEN, i + 1, 9, &[1, 2, 3, u64::MAX], &words[i], file).unwrap();
+    }
+    let mut bundle = vec![0; ORDER_SIZE + files.len()];
+    write_bundle(2, &files, &mut bundle).unwrap();
+    let mut changed = bundle.clone();
+    for place in 0..4 {
+        let first = fetch_range(&bundle, 1 + place, place).unwrap();
+        let second = fetch_range(&bundle, 7 - place / 2, place).unwrap();
+        changed[first][8..].fill(0xff);
+        changed[second.end - 1] ^= 1 << place;
+    }
+    assert_ne!(changed, bundle);
+    assert_eq!(mended(&changed), bundle);
+    assert_eq!(mended(&bundle), bundle);
 }
