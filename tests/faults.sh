@@ -4,35 +4,21 @@
 # file of `mend` stands there whole, after the whole text, or not at all.
 set -u
 cd "$(dirname "$0")/.." || exit 2
-work=$(mktemp -d) || exit 2
-trap 'rm -rf "$work"' EXIT
+name=faults
+. tools/judge.sh
 ${CC:-cc} -std=c99 -Wall -Wextra -O1 -shared -fPIC tests/faults/shim.c -o "$work/shim.so" || { echo "faults: shim.c does not compile"; exit 1; }
 
 # The program that is tried, its stored cases, and its arguments: none, or the name of a new file.
-choose() { # NAME PROGRAM ARGUMENT..
-  name=$1
-  program=$2
+choose() { # PROGRAM PATH ARGUMENT..
+  tried=$1
+  name="faults: $1"
+  program=$(program_at "$2") || exit 1
   cases=tests/$1
   arguments=("${@:3}")
-  [ -x "$program" ] || { echo "faults: no program at $program"; exit 1; }
-}
-
-passed=0
-failed=0
-judge() { # NAME TEST..
-  local what="$name: $1"
-  shift
-  if "$@"; then
-    passed=$((passed + 1))
-  else
-    failed=$((failed + 1))
-    echo "faults: $what"
-    head -n 3 "$work/err"
-  fi
 }
 
 silent() { [ ! -s "$work/err" ]; }
-says() { [ "$(wc -l <"$work/err")" -eq 1 ] && grep -q "^$name: $1: " "$work/err"; }
+says() { [ "$(wc -l <"$work/err")" -eq 1 ] && grep -q "^$tried: $1: " "$work/err"; }
 text() { cmp -s "$work/out" "$cases/$1.out"; }
 unmade() { [ ! -e "$work/new" ]; }
 made() { # NAME: the new file, where one is asked for and the input is not refused
@@ -112,7 +98,7 @@ closed() {
 }
 
 piped() { # LONG
-  python3 tests/faults/pipes.py "$name" "$program" "$cases/$1.in" "$cases/$1.out"
+  python3 tests/faults/pipes.py "$tried" "$program" "$cases/$1.in" "$cases/$1.out"
   judge "pipes" [ $? -eq 0 ]
 }
 
@@ -152,5 +138,5 @@ saving "e28" "e5" empty whole empty
 (ulimit -f 1 && trap '' XFSZ && run <"$cases/labs.in" >"$work/out" 2>"$work/err")
 judge "a limit of the new file" undone labs
 
-echo "faults: $passed cases passed, $failed failed"
-[ "$passed" -gt 0 ] && [ "$failed" -eq 0 ]
+name=faults
+verdict

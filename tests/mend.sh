@@ -4,28 +4,10 @@
 # made by. The program is target/bin/mend, or the path in MEND.
 set -u
 cd "$(dirname "$0")/.." || exit 2
-program=${MEND:-target/bin/mend}
-if [ ! -x "$program" ] || [ -d "$program" ]; then
-  echo "mend: no program at $program"
-  exit 1
-fi
-
-work=$(mktemp -d) || exit 2
-trap 'rm -rf "$work"' EXIT
+name=mend
+. tools/judge.sh
+program=$(program_at "${MEND:-target/bin/mend}") || exit 1
 new=$work/new
-passed=0
-failed=0
-judge() { # NAME TEST..
-  local name=$1
-  shift
-  if "$@"; then
-    passed=$((passed + 1))
-  else
-    failed=$((failed + 1))
-    echo "mend: $name differs (status $status)"
-    head -n 3 "$work/err"
-  fi
-}
 
 mend() { # INPUT ARGUMENT..
   "$program" "${@:2}" <"$1" >"$work/out" 2>"$work/err"
@@ -43,7 +25,7 @@ made() { # NEW: the right file, or none where nothing is stored
 as_stored() { # INPUT
   local stored=${1%.in}
   mend "$1"
-  printed "$stored.out" || { diff "$stored.out" "$work/out" | head -n 6; return 1; }
+  printed "$stored.out" || { echo "status $status"; diff "$stored.out" "$work/out" | head -n 6; return 1; }
   [ ! -e "$new" ] || return 1
   mend "$1" "$new"
   printed "$stored.out" && made "$stored.new"
@@ -117,5 +99,4 @@ judge "two arguments and no input" usage
 mend "$sample" "$new" "$work/second" ""
 judge "three arguments" usage
 
-echo "mend: $passed cases passed, $failed failed"
-[ "$passed" -gt 0 ] && [ "$failed" -eq 0 ]
+verdict

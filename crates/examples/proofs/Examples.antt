@@ -17,7 +17,8 @@ use Rattle.bundle.specs.Bundle.{placeAt, prevHolder, filesIn, faultOfFile, file
 use Rattle.bundle.specs.Contents.{wordsFrom, jobFrom, jobsFrom, fileFrom, filesFrom, bundleFrom, wordsOf}
 use Rattle.totals.specs.Values.{valuesFrom, every}
 use Rattle.archive.specs.Archive.{placeOpening}
-use Rattle.writer.specs.Bytes.{recordBytes, headingBody, headingBytes, wordsBytes, jobBody, jobBytes, jobsBytes, fileBytes, filesBytes, orderBytes, bundleBytes}
+use Rattle.writer.specs.Bytes.{recordBytes, headingBody, headingBytes, wordsBytes, jobBody, jobBytes, jobsBytes, fileBytes, filesBytes}
+use Rattle.writer.specs.Bytes.{orderBytes, bundleBytes}
 use Rattle.text.specs.Text.{openLine, declinedLine, keptLine, changedLines}
 use Rattle.listing.specs.Listing.{listingOf}
 use Rattle.mending.specs.Mended.{rewordBundle, mendedWords, mended}
