@@ -76,10 +76,8 @@ fn load_run(
     let mut seen: u64 = 0;
     let mut f: usize = 0;
     while f < files {
-        let r = totals::run_sum(bytes, h, f, a, b);
-        let sum = r.sum;
-        seen = seen | r.seen;
-        shares[f] = ring::reduce(h.params.k, sum);
+        shares[f] = [0u64; 6];
+        seen = seen | totals::add_run(bytes, h, f, a, b, &mut shares[f]);
         f += 1;
     }
     seen

@@ -17,7 +17,7 @@ ghost use Rattle.fetch.specs.Fetch.{fileOf, bodyFault, partFault, partOf};
 ghost use Rattle.describe.specs.Describe.{aboutOf, describeFault, numberOf, numberFault, filePartOf, filePartFault, stepOf, stepFault};
 ghost use Rattle.writer.specs.Bytes.{fileBytes, orderBytes};
 ghost use Rattle.writer.specs.Write.{fileFor, fileWriteFault, orderFault, bundleWriteFault};
-ghost use Rattle.totals.specs.Total.{totalFault, totalWords};
+ghost use Rattle.totals.specs.Total.{totalFault, totalWords, addTotalFault, addTotalWords};
 ghost use Rattle.archive.specs.Archive.{sharesAt, sharesOver, openPlace, openRun};
 ghost use Rattle.listing.specs.Listing.{lineOf, lineFault};
 ghost use Rattle.text.specs.Text.{written};
@@ -280,6 +280,21 @@ pub extern "C" fn yikes_total(
         × (now (out .exit) ≡ totalWords (now (bytes .entry)) holder a b (now (out .entry))) ⌝ }
 {
     totals::total(bytes, holder, a, b, out)
+}
+
+// The same total, added to the lent element word by word: an element of d words in width.
+#[no_mangle]
+pub extern "C" fn yikes_add_total(
+    bytes: &[u8],
+    holder: usize,
+    a: usize,
+    b: usize,
+    running: &mut [u64],
+) -> u8
+    ensures { λ r. ⌜ (r ≡ addTotalFault (now (bytes .entry)) holder a b (now (running .entry)))
+        × (now (running .exit) ≡ addTotalWords (now (bytes .entry)) holder a b (now (running .entry))) ⌝ }
+{
+    totals::add_total(bytes, holder, a, b, running)
 }
 
 // A job's body by holder and place, as its offset in the bundle and its length: an output of two words.

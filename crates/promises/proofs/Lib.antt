@@ -1,10 +1,12 @@
 pub mod Fetched
-pub mod Totals
 pub mod Jobs
 pub mod Changed
 pub mod InRanges
 pub mod Written
+pub mod Elements
+pub mod Totals
 pub mod Opened
 pub mod OwnTotals
+pub mod AddedTotals
 pub mod Files
 pub mod Mended

@@ -5,8 +5,8 @@ use mathlib.Core.Bool.{true}
 use mathlib.Core.List.{List, _∷_}
 use Prim.Native.Nat.{ℕ, zero, suc, _+_, _-_, _*_, _≤_, _<_}
 use native.Mathlib.Omega.{arith}
-use lib.ListN.{length, length-append}
-use lib.Seq.{take-at, drop-at}
+use lib.ListN.{length}
+use Rattle.algebra.specs.Shares.{All}
 use Rattle.words.specs.Faults.{paramsFault, lengthFault}
 use Rattle.words.specs.Refusal.{first, unless, HOLDER, WIDE-WORD}
 use Rattle.words.proofs.Faults.{clear-params, clear-length}
@@ -23,12 +23,15 @@ use Rattle.fetch.specs.Fetch.{runFault}
 use Rattle.fetch.proofs.Fetch.{holder-file, run-none}
 use Rattle.totals.specs.Total.{runTotal, runInWidth, totalFault, totalWords}
 use Rattle.totals.specs.Values.{valuesFrom}
+use Rattle.totals.proofs.AddTotals.{first-last}
 use Rattle.totals.proofs.Totals.{TotalClear, total-clear, total-words}
-use Rattle.totals.proofs.Values.{values-count, every-all}
+use Rattle.totals.proofs.Values.{every-all}
 use Rattle.archive.specs.Archive.{shareBy, sharesOver, filesInWidth, runOpening, openingFault, openRun}
 use Rattle.archive.specs.Dealt.{RunOpensTo}
 use Rattle.archive.proofs.Shares.{total-element}
-use Rattle.promises.specs.Totals.{holdersOf, totalsOf}
+use Rattle.promises.specs.Totals.{holdersOf, elementsOf, totalsOf}
+use Rattle.promises.proofs.Changed.{sharesWith}
+use Rattle.promises.proofs.Elements.{elements-shares, elements-length}
 use Rattle.promises.proofs.Written.{accepted-rise}
 
 module _ (bs : List ℕ) (z : bundleFault bs ≡ 0) (a b : ℕ) (old : ℕ → List ℕ)
@@ -45,57 +48,41 @@ module _ (bs : List ℕ) (z : bundleFault bs ≡ 0) (a b : ℕ) (old : ℕ → L
   clear : (f : ℕ) → f < filesOf bs → TotalClear bs (holderOf bs f) a b (length (old (holderOf bs f)))
   clear f l = total-clear bs (holderOf bs f) a b (length (old (holderOf bs f))) (taken f l)
 
-  -- each total is that of the holder's file
-  one : (f : ℕ) → f < filesOf bs → totalWords bs (holderOf bs f) a b (old (holderOf bs f)) ≡ own f
-  one f l = total-words bs (holderOf bs f) a b (old (holderOf bs f)) (taken f l) ∙ ap own (holder-file bs z f l)
+  -- the holders' totals: of the files from i on each is that of the file, and of d words
+  abbrev total : ℕ → List ℕ
+  total h = totalWords bs h a b (old h)
 
-  -- of the n files from i on: their shares, and how many words
-  abbrev lot : ℕ → ℕ → List ℕ
-  lot i n = totalsOf (λ h. bs) a b old (valuesFrom (holderOf bs) i n)
-
-  lot-shares : (i n : ℕ) → i + n ≤ filesOf bs → lent d (valuesFrom (holderOf bs) i n) (lot i n) ≡ valuesFrom (shareBy bs own) i n
-  unfolding lent valuesFrom totalsOf
-  lot-shares i zero h = refl
-  lot-shares i (suc n) h =
-      let t = totalWords bs (holderOf bs i) a b (old (holderOf bs i)) in
-      let e : t ≡ own i = one i (omega arith) in
-      let l : length t ≡ d = ap length e ∙ total-element bs i a (b - a) .0 in
-      ap₂ (λ (x : Element) (ws : List ℕ). record { holder = holderOf bs i; words = x } ∷ lent d (valuesFrom (holderOf bs) (suc i) n) ws)
-      (take-at t (lot (suc i) n) d l ∙ e) (drop-at t (lot (suc i) n) d l)
-      ∙ ap (λ (ss : List Share). shareBy bs own i ∷ ss) (lot-shares (suc i) n (omega arith))
-
-  lot-length : (i n : ℕ) → i + n ≤ filesOf bs → length (lot i n) ≡ n * d
-  unfolding valuesFrom totalsOf
-  lot-length i zero h = omega arith
-  lot-length i (suc n) h =
-      let t = totalWords bs (holderOf bs i) a b (old (holderOf bs i)) in
-      length-append t (lot (suc i) n)
-      ∙ ap₂ _+_ (ap length (one i (omega arith)) ∙ total-element bs i a (b - a) .0) (lot-length (suc i) n (omega arith))
-      ∙ omega arith
+  totals-are : (i n : ℕ) → i + n ≤ filesOf bs → let hs = valuesFrom (holderOf bs) i n in
+      All (λ h. length (total h) ≡ d) hs × (sharesWith total hs ≡ valuesFrom (shareBy bs own) i n)
+  unfolding valuesFrom
+  totals-are i zero h = (tt, refl)
+  totals-are i (suc n) h =
+      let holder = holderOf bs i in
+      let e : total holder ≡ own i = total-words bs holder a b (old holder) (taken i (omega arith)) ∙ ap own (holder-file bs z i (omega arith)) in
+      let rest = totals-are (suc i) n (omega arith) in (
+        (ap length e ∙ total-element bs i a (b - a) .0, rest .0),
+        ap₂ (λ (x : Element) (ss : List Share). record { holder = holder; words = x } ∷ ss) e (rest .1),
+      )
 
   abbrev hs : List ℕ
   hs = holdersOf bs
 
   abbrev ws : List ℕ
-  ws = totalsOf (λ h. bs) a b old (holdersOf bs)
+  ws = elementsOf total hs
+
+  all-are : All (λ h. length (total h) ≡ d) hs × (sharesWith total hs ≡ sharesOver bs a (b - a))
+  all-are = totals-are 0 (filesOf bs) (omega arith)
 
   -- all refusals but those of the outputs are none, of the lent totals and of the run
-  last : (x : ℕ) → first x 0 ≡ x
-  unfolding first
-  last zero = refl
-  last (suc x) = refl
-
   lent-outputs : (n w : ℕ) → lentFault (paramsOf bs) hs ws n w ≡ first (lengthFault d n) (lengthFault 1 w)
   unfolding lentFault
   lent-outputs n w =
-      let m = filesOf bs in
-      let c : length hs ≡ m = values-count (holderOf bs) 0 m in
       first-none (paramsFault (paramsOf bs)) _ (clear-params (paramsOf bs) (bundle-ranges bs (bundle-ok bs z) .book))
       ∙ first-none (lengthFault (length hs * d) (length ws)) _
-      (clear-length (length hs * d) (length ws) (lot-length 0 m (omega arith) ∙ ap (λ (x : ℕ). x * d) (sym c)))
+      (clear-length (length hs * d) (length ws) (elements-length d total hs (all-are .0)))
       ∙ ap (λ (x : ℕ). first (lengthFault d n) (first (lengthFault 1 w) x))
       (unless-yes (risingTo (paramsOf bs .n) 0 hs) HOLDER (accepted-rise bs z))
-      ∙ ap (first (lengthFault d n)) (last (lengthFault 1 w))
+      ∙ ap (first (lengthFault d n)) (first-last (lengthFault 1 w))
 
   run-outputs : (n w : ℕ) → openingFault bs n w (runFault (bundleHeading bs) a b) ≡ first (lengthFault d n) (lengthFault 1 w)
   unfolding openingFault
@@ -103,7 +90,7 @@ module _ (bs : List ℕ) (z : bundleFault bs ≡ 0) (a b : ℕ) (old : ℕ → L
       let c = clear 0 (omega (arith, bundle-ok bs z .files .some)) in
       first-none (bundleFault bs) _ z
       ∙ ap (λ (x : ℕ). first (lengthFault d n) (first (lengthFault 1 w) x)) (run-none (bundleHeading bs) a b (c .low) (c .high))
-      ∙ ap (first (lengthFault d n)) (last (lengthFault 1 w))
+      ∙ ap (first (lengthFault d n)) (first-last (lengthFault 1 w))
 
   in-width : filesInWidth bs a (b - a) ≡ true
   in-width =
@@ -116,7 +103,7 @@ module _ (bs : List ℕ) (z : bundleFault bs ≡ 0) (a b : ℕ) (old : ℕ → L
       × (opening (paramsOf bs) (holdersOf bs) (totalsOf (λ h. bs) a b old (holdersOf bs)) (allowanceOf bs) n w ≡ openRun bs a b n w)
   unfolding opening openRun runOpening
   totals-open n w =
-      let shares = lot-shares 0 (filesOf bs) (omega arith) in
+      let shares = elements-shares d total hs (all-are .0) ∙ all-are .1 in
       let p = paramsOf bs in
       let e = allowanceOf bs in (
         shares,

@@ -6,21 +6,22 @@ use mathlib.Core.Path.{_≡_, refl, sym, ap, ap₂, _∙_}
 use mathlib.Core.Bool.{true}
 use mathlib.Core.List.{[], _∷_}
 use Prim.Native.Nat.{ℕ, zero, suc, _+_, _-_, _%_, _^_, _≤_, _<_}
-use native.Mathlib.Nat.{not-suc-le-zero, le-of-suc-le-suc, suc-ne-zero, zero-mod, mod-lt, mod-add-mod, add-zero, add-assoc, zero-add, mod-eq-of-lt}
+use native.Mathlib.Nat.{not-suc-le-zero, le-of-suc-le-suc, le-of-eq, zero-mod, mod-lt, mod-add-mod, add-zero, add-assoc, zero-add}
 use native.Mathlib.Omega.{arith}
-use lib.ListN.{length, getD, length-replicate}
+use lib.ListN.{length, getD, take, length-replicate}
 use lib.IntN.{pos, negℤ}
 use lib.Pow.{pow-pos}
+use lib.Seq.{take-all}
 use lib.Signed.{_≤ℤ_}
 use Rattle.words.specs.Word.{addW, inWidth, allInWidth}
 use Rattle.words.specs.Signed.{meaning, sumOfMeanings, sumOf}
 use Rattle.words.proofs.Mod.{mods}
-use Rattle.words.proofs.Tests.{and-left, and-right, and-both}
-use Rattle.words.proofs.Width.{in-width-lt, lt-in-width}
+use Rattle.words.proofs.Tests.{and-both}
+use Rattle.words.proofs.Width.{lt-in-width}
 use Rattle.words.proofs.Reading.{signed-sum}
 use Rattle.galois.specs.Element.{Element, zip, sum, zeroE, reduce}
-use Rattle.galois.proofs.Lists.{length-zip}
-use Rattle.galois.proofs.Narrow.{reduce-sum, reduce-left, reduce-zeros}
+use Rattle.galois.proofs.Lists.{length-zip, reduce-width}
+use Rattle.galois.proofs.Narrow.{reduce-sum, reduce-left, reduce-zeros, sum-comm}
 use Rattle.totals.specs.Values.{valuesFrom}
 use Rattle.totals.specs.Total.{sumTo, wordsNo}
 
@@ -40,29 +41,29 @@ add-words-assoc k x y z = simp (mods, add-assoc)
 pub sum-assoc : (k : ℕ) (a b c : Element) → sum k (sum k a b) c ≡ sum k a (sum k b c)
 sum-assoc k = zip-assoc (addW k) (add-words-assoc k)
 
-zero-right : (k : ℕ) (a : Element) → allInWidth k a ≡ true → sum k a (zeroE (length a)) ≡ a
-unfolding zip addW allInWidth
-zero-right k [] h = refl
-zero-right k (x ∷ a) h =
-    ap₂ _∷_ (rw (add-zero, mod-eq-of-lt (in-width-lt k x (and-left (inWidth k x) _ h)))) (zero-right k a (and-right (inWidth k x) _ h))
+-- zeros added cut each word to k bits, as far as they go
+pub zeros-added : (k d : ℕ) (a : Element) → sum k a (zeroE d) ≡ reduce k (take d a)
+unfolding zip addW reduce
+zeros-added k zero [] = refl
+zeros-added k zero (x ∷ a) = refl
+zeros-added k (suc d) [] = refl
+zeros-added k (suc d) (x ∷ a) = ap₂ _∷_ (rw add-zero) (zeros-added k d a)
 
-pub sum-zero : (k d : ℕ) (a : Element) → length a ≡ d → allInWidth k a ≡ true → sum k a (zeroE d) ≡ a
-sum-zero k d a l h = ap (λ (n : ℕ). sum k a (zeroE n)) (sym l) ∙ zero-right k a h
+pub sum-zero : (k d : ℕ) (a : Element) → length a ≤ d → allInWidth k a ≡ true → sum k a (zeroE d) ≡ a
+sum-zero k d a l h = zeros-added k d a ∙ rw (take-all d a l) (reduce-width k a h)
 
-zero-left : (k : ℕ) (a : Element) → allInWidth k a ≡ true → sum k (zeroE (length a)) a ≡ a
-unfolding zip addW allInWidth
-zero-left k [] h = refl
-zero-left k (x ∷ a) h =
-    ap₂ _∷_ (rw zero-add (mod-eq-of-lt (in-width-lt k x (and-left (inWidth k x) _ h)))) (zero-left k a (and-right (inWidth k x) _ h))
+pub zero-left : (k d : ℕ) (a : Element) → length a ≤ d → allInWidth k a ≡ true → sum k (zeroE d) a ≡ a
+zero-left k d a l h = sum-comm k (zeroE d) a ∙ sum-zero k d a l h
 
-zip-at : (f : ℕ → ℕ → ℕ) (a b : Element) (j : ℕ) → j < length a → length a ≡ length b → getD (zip f a b) j 0 ≡ f (getD a j 0) (getD b j 0)
+-- a list that is longer than the other is used as far as that goes
+pub zip-within : (f : ℕ → ℕ → ℕ) (a b : Element) (j : ℕ) → j < length b → length b ≤ length a → getD (zip f a b) j 0 ≡ f (getD a j 0) (getD b j 0)
 unfolding zip
-zip-at f [] b j h e = absurd (not-suc-le-zero h)
-zip-at f (x ∷ a) [] j h e = absurd (suc-ne-zero (length a) e)
-zip-at f (x ∷ a) (y ∷ b) zero h e = refl
-zip-at f (x ∷ a) (y ∷ b) (suc j) h e = zip-at f a b j (le-of-suc-le-suc h) (let q : length a ≡ length b = omega (arith, e) in q)
+zip-within f a [] j l u = absurd (not-suc-le-zero l)
+zip-within f [] (y ∷ b) j l u = absurd (not-suc-le-zero u)
+zip-within f (x ∷ a) (y ∷ b) zero l u = refl
+zip-within f (x ∷ a) (y ∷ b) (suc j) l u = zip-within f a b j (le-of-suc-le-suc l) (le-of-suc-le-suc u)
 
-zero-at : (d j : ℕ) → getD (zeroE d) j 0 ≡ 0
+pub zero-at : (d j : ℕ) → getD (zeroE d) j 0 ≡ 0
 zero-at zero j = refl
 zero-at (suc d) zero = refl
 zero-at (suc d) (suc j) = zero-at d j
@@ -121,7 +122,7 @@ module _ (k d : ℕ) (s : ℕ → Element) where
   pub sum-split : (m n : ℕ) → ((i : ℕ) → i < m → length (s i) ≡ d) →
       sumTo k d s (m + n) ≡ sum k (sumTo k d s m) (sumTo k d (λ i. s (m + i)) n)
   unfolding sumTo
-  sum-split m zero h = rw add-zero (sym (sum-zero k d (sumTo k d s m) (sum-length k d s m h) (sum-width k d s m)))
+  sum-split m zero h = rw add-zero (sym (sum-zero k d (sumTo k d s m) (le-of-eq (sum-length k d s m h)) (sum-width k d s m)))
   sum-split m (suc n) h =
       let e : m + suc n ≡ suc (m + n) = omega arith in
       ap (sumTo k d s) e
@@ -135,7 +136,7 @@ module _ (k d : ℕ) (s : ℕ → Element) where
   sum-word j (suc n) l h =
       let t = sum-length k d s n (λ i u. h i (omega arith)) in
       let g : length (s n) ≡ d = h n (omega arith) in
-      zip-at (addW k) (sumTo k d s n) (s n) j (rw t l) (t ∙ sym g)
+      zip-within (addW k) (sumTo k d s n) (s n) j (rw g l) (le-of-eq (g ∙ sym t))
       ∙ ap (λ (x : ℕ). (x + getD (s n) j 0) % 2 ^ k) (sum-word j n l (λ i u. h i (omega arith)))
       ∙ mod-add-mod (sumOf (wordsNo j s n)) (2 ^ k) (getD (s n) j 0)
       ∙ ap (λ (x : ℕ). x % 2 ^ k) (sym (sum-last (λ i. getD (s i) j 0) 0 n ∙ rw zero-add))

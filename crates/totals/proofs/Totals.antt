@@ -2,9 +2,9 @@
 -- (`totals-join`), an empty run totals to zero words (`empty-total`), and a total reads as the sum of the jobs' signed values in the file where
 -- that is in range (`total-signed`). Assumes nothing.
 use mathlib.Core.Path.{_≡_, refl, sym, ap, ap₂, _∙_}
-use mathlib.Core.Bool.{true}
+use mathlib.Core.Bool.{Bool, true}
 use mathlib.Core.List.{List}
-use Prim.Native.Nat.{ℕ, zero, suc, _+_, _-_, _^_, _≤_, _<_}
+use Prim.Native.Nat.{ℕ, suc, _+_, _-_, _^_, _≤_, _<_}
 use native.Mathlib.Omega.{arith}
 use native.Mathlib.Decide.{decLe}
 use lib.Dec.{ltb, eqb, lit<}
@@ -12,11 +12,12 @@ use lib.ListN.{length, getD}
 use lib.IntN.{pos, negℤ}
 use lib.Signed.{_≤ℤ_}
 use borrow.Author.Tests.{eq-eqb, eqb-true}
-use Rattle.words.specs.Refusal.{first, unless, kept, HOLDER}
+use Rattle.words.specs.Refusal.{first, unless, HOLDER}
 use Rattle.words.specs.Faults.{lengthFault}
 use Rattle.words.specs.Signed.{meaning, sumOfMeanings}
-use Rattle.words.specs.Word.{allInWidth}
-use Rattle.words.proofs.Refusal.{first-left, first-right, first-none, first-some, pass, unless-held, unless-yes, kept-none}
+use Rattle.words.specs.Word.{inWidth, allInWidth}
+use Rattle.words.proofs.Refusal.{first-left, first-right, first-none, first-some, first-assoc, first-three}
+use Rattle.words.proofs.Refusal.{pass, unless-held, unless-yes, kept-none, kept-some}
 use Rattle.galois.specs.Element.{sum, zeroE}
 use Rattle.records.specs.declared.Heading.{Heading}
 use Rattle.bundle.specs.Bundle.{bundleFault, bundleHeading, paramsOf, filesOf, accepted}
@@ -25,77 +26,139 @@ use Rattle.bundle.specs.Contents.{wordsOf}
 use Rattle.bundle.proofs.Bundles.{bundle-ok, bundle-ranges, accept-fault, accept-none, accept-heading}
 use Rattle.fetch.specs.Fetch.{fileOf, holderFault, runFault}
 use Rattle.fetch.proofs.Fetch.{holder-in, holder-none, run-in, run-none, holder-told}
-use Rattle.totals.specs.Total.{wordsNo, runTotal, runInWidth, totalFault, totalWords}
+use Rattle.totals.specs.Total.{wordsNo, runTotal, runInWidth, askedFault, totalFault, totalWords}
 use Rattle.totals.proofs.Values.{every-each, every-all}
 use Rattle.totals.proofs.Sums.{sum-same, sum-none, sum-split, sum-signed}
 use Rattle.totals.proofs.Words.{words-length}
 use Rattle.totals.proofs.Runs.{width-start}
 
--- ---- the number, by the answer of accepting and of the search
-
-first-assoc : (a b c : ℕ) → first a (first b c) ≡ first (first a b) c
-unfolding first
-first-assoc zero b c = refl
-first-assoc (suc a) b c = refl
+-- ---- the number before the words are looked at, by the answer of accepting and of the search
 
 module _ (bs : List ℕ) (holder a b out : ℕ) where
-  abbrev width : ℕ
-  width = unless (runInWidth bs (fileOf bs holder) a (b - a)) 3
-
-  -- the tests before the words are looked at
   abbrev tests : ℕ
   tests = first (holderFault bs holder) (first (lengthFault (paramsOf bs .d) out) (runFault (bundleHeading bs) a b))
 
-  by-tests : totalFault bs holder a b out ≡ first (bundleFault bs) (first tests width)
-  unfolding totalFault
-  by-tests =
-      let l = lengthFault (paramsOf bs .d) out in
-      let r = runFault (bundleHeading bs) a b in
-      ap (first (bundleFault bs)) (ap (first (holderFault bs holder)) (first-assoc l r width) ∙ first-assoc (holderFault bs holder) (first l r) width)
+  by-tests : askedFault bs holder a b out ≡ first (bundleFault bs) tests
+  unfolding askedFault
+  by-tests = refl
 
   module _ (r : Accepted) (e : r ≡ accepted bs) where
-    pub total-refused : (r .fault ≡ 0 → ⊥) → totalFault bs holder a b out ≡ r .fault
-    total-refused n =
+    pub asked-refused : (r .fault ≡ 0 → ⊥) → r .fault ≡ askedFault bs holder a b out
+    asked-refused n =
         let q = accept-fault bs r e in
-        by-tests ∙ first-some (bundleFault bs) _ (λ z. n (q ∙ z)) ∙ sym q
+        sym (by-tests ∙ first-some (bundleFault bs) _ (λ z. n (q ∙ z)) ∙ sym q)
 
-    module _ (z : r .fault ≡ 0) (f : ℕ) (q : f ≡ fileOf bs holder) where
-      -- the tests, of what the code holds
-      abbrev told : ℕ
-      told = first (unless (ltb f (r .files)) HOLDER) (first (lengthFault (r .heading .params .d) out) (runFault (r .heading) a b))
+    pub asked-told : (z : r .fault ≡ 0) (f : ℕ) (q : f ≡ fileOf bs holder) →
+        first (unless (ltb f (r .files)) HOLDER) (first (lengthFault (r .heading .params .d) out) (runFault (r .heading) a b))
+        ≡ askedFault bs holder a b out
+    asked-told z f q =
+        ap₂ first (holder-told bs holder r e z f q)
+        (ap (λ (h : Heading). first (lengthFault (h .params .d) out) (runFault h a b)) (accept-heading bs r e z))
+        ∙ sym (by-tests ∙ first-none (bundleFault bs) _ (accept-none bs r e z))
 
-      tests-told : told ≡ tests
-      tests-told =
-          ap₂ first (holder-told bs holder r e z f q)
-          (ap (λ (h : Heading). first (lengthFault (h .params .d) out) (runFault h a b)) (accept-heading bs r e z))
+  -- what it says where there is none
+  pub record AskedClear : Type 0 where
+    pub no-fault : bundleFault bs ≡ 0
+    pub file : fileOf bs holder < filesOf bs
+    pub output : out ≡ paramsOf bs .d
+    pub low : a ≤ b
+    pub high : b ≤ bundleHeading bs .jobs
 
-      pub total-declined : (told ≡ 0 → ⊥) → totalFault bs holder a b out ≡ told
-      total-declined n =
-          by-tests ∙ first-none (bundleFault bs) _ (accept-none bs r e z) ∙ first-some tests width (λ y. n (tests-told ∙ y)) ∙ sym tests-told
+  pub asked-clear : askedFault bs holder a b out ≡ 0 → AskedClear
+  unfolding lengthFault
+  asked-clear x =
+      let e = sym by-tests ∙ x in
+      let e₁ = first-right (bundleFault bs) _ e in
+      let e₂ = first-right (holderFault bs holder) _ e₁ in
+      let run = run-in (bundleHeading bs) a b (first-right (unless (eqb out (paramsOf bs .d)) 2) _ e₂) in
+      record {
+        no-fault = first-left (bundleFault bs) _ e;
+        file = holder-in bs holder (first-left (holderFault bs holder) _ e₁);
+        output = eqb-true _ _ (unless-held _ 2 (lit< tt) (first-left (unless (eqb out (paramsOf bs .d)) 2) _ e₂));
+        low = run .0;
+        high = run .1;
+      }
 
-      pub total-width : told ≡ 0 → totalFault bs holder a b out ≡ width
-      total-width y =
-          by-tests ∙ first-none (bundleFault bs) _ (accept-none bs r e z) ∙ first-none tests width (sym tests-told ∙ y)
+  clear-asked : bundleFault bs ≡ 0 → fileOf bs holder < filesOf bs → out ≡ paramsOf bs .d → a ≤ b → b ≤ bundleHeading bs .jobs →
+      askedFault bs holder a b out ≡ 0
+  unfolding lengthFault
+  clear-asked z file output low high =
+      by-tests
+      ∙ first-none (bundleFault bs) _ z
+      ∙ first-none (holderFault bs holder) _ (holder-none bs holder file)
+      ∙ pass (eqb out (paramsOf bs .d)) 2 _ (eq-eqb out (paramsOf bs .d) output)
+      ∙ run-none (bundleHeading bs) a b low high
 
-      -- what the tests say of the file, the output and the run
-      pub total-in : told ≡ 0 → (f < filesOf bs) × (out ≡ r .heading .params .d) × (a ≤ b) × (b ≤ r .heading .jobs)
-      unfolding lengthFault
-      total-in y =
-          let h = r .heading in
-          let x = first-right (unless (ltb f (r .files)) HOLDER) _ y in
-          let g = holder-in bs holder (sym (holder-told bs holder r e z f q) ∙ first-left (unless (ltb f (r .files)) HOLDER) _ y) in
-          let t = run-in h a b (first-right (unless (eqb out (h .params .d)) 2) _ x) in (
-            omega (arith, q, g),
-            eqb-true out (h .params .d) (unless-held _ 2 (lit< tt) (first-left (unless (eqb out (h .params .d)) 2) _ x)),
-            t .0,
-            t .1,
-          )
+  -- a heading and a file found by it, and what a pass over the run asks of them
+  pub record Found (h : Heading) (f : ℕ) : Type 0 where
+    pub asked : askedFault bs holder a b out ≡ 0
+    pub heading : h ≡ bundleHeading bs
+    pub file : f ≡ fileOf bs holder
+    pub no-fault : bundleFault bs ≡ 0
+    pub within : f < filesOf bs
+    pub low : a ≤ b
+    pub high : b ≤ h .jobs
+    pub output : out ≡ h .params .d
 
--- the contract, from the number and what is kept by it
-pub total-told : (bs : List ℕ) (holder a b : ℕ) (old new : List ℕ) (v : ℕ) → totalFault bs holder a b (length old) ≡ v →
-    new ≡ kept v old (runTotal bs (fileOf bs holder) a (b - a)) → (v ≡ totalFault bs holder a b (length old)) × (new ≡ totalWords bs holder a b old)
-unfolding totalWords
-total-told bs holder a b old new v e q = (sym e, q ∙ ap (λ (c : ℕ). kept c old (runTotal bs (fileOf bs holder) a (b - a))) (sym e))
+  pub asked-found : (h : Heading) (f v : ℕ) → v ≡ askedFault bs holder a b out → (v ≡ 0 → (h ≡ bundleHeading bs) × (f ≡ fileOf bs holder)) →
+      v ≡ 0 → Found h f
+  asked-found h f v e q z =
+      let c = asked-clear (sym e ∙ z) in
+      record {
+        asked = sym e ∙ z;
+        heading = q z .0;
+        file = q z .1;
+        no-fault = c .no-fault;
+        within = rw (q z .1) (c .file);
+        low = c .low;
+        high = rw (q z .0) (c .high);
+        output = rw (q z .0) (c .output);
+      }
+
+  -- ---- the number of a total: what is asked, and then the width
+  abbrev width : ℕ
+  width = unless (runInWidth bs (fileOf bs holder) a (b - a)) 3
+
+  pub total-asked : (v : ℕ) → v ≡ askedFault bs holder a b out → (v ≡ 0 → ⊥) → v ≡ totalFault bs holder a b out
+  unfolding totalFault
+  total-asked v e n = e ∙ sym (first-some (askedFault bs holder a b out) width (λ z. n (e ∙ z)))
+
+  pub total-width : askedFault bs holder a b out ≡ 0 → totalFault bs holder a b out ≡ unless (runInWidth bs (fileOf bs holder) a (b - a)) 3
+  unfolding totalFault
+  total-width z = first-none (askedFault bs holder a b out) width z
+
+  -- by a test of the words of the run, taken together
+  pub total-tested : {h : Heading} {f : ℕ} → Found h f → (r : ℕ) (t : Bool) → t ≡ inWidth (h .params .k) r →
+      inWidth (h .params .k) r ≡ runInWidth bs f a (b - a) → totalFault bs holder a b out ≡ unless t 3
+  total-tested g r t p q =
+      total-width (g .asked) ∙ ap (λ (x : Bool). unless x 3) (sym (p ∙ q ∙ ap (λ (f : ℕ). runInWidth bs f a (b - a)) (g .file)))
+
+  -- "4 for a named holder, 2, 9, 3" after the bundle's
+  pub total-order : totalFault bs holder a b out ≡
+      first (bundleFault bs)
+      (first (holderFault bs holder)
+      (first (lengthFault (paramsOf bs .d) out)
+      (first (runFault (bundleHeading bs) a b) (unless (runInWidth bs (fileOf bs holder) a (b - a)) 3))))
+  unfolding totalFault
+  total-order =
+      ap (λ (x : ℕ). first x width) by-tests
+      ∙ first-assoc (bundleFault bs) tests width
+      ∙ ap (first (bundleFault bs)) (first-three (holderFault bs holder) (lengthFault (paramsOf bs .d) out) (runFault (bundleHeading bs) a b) width)
+
+-- what the output holds, and with it the contract of a call: refused, and done
+module _ (bs : List ℕ) (holder a b : ℕ) (old : List ℕ) where
+  pub total-words : totalFault bs holder a b (length old) ≡ 0 → totalWords bs holder a b old ≡ runTotal bs (fileOf bs holder) a (b - a)
+  unfolding totalWords
+  total-words e = kept-none (totalFault bs holder a b (length old)) old (runTotal bs (fileOf bs holder) a (b - a)) e
+
+  pub total-refused : (v : ℕ) → v ≡ totalFault bs holder a b (length old) → (v ≡ 0 → ⊥) →
+      (v ≡ totalFault bs holder a b (length old)) × (old ≡ totalWords bs holder a b old)
+  unfolding totalWords
+  total-refused v e n = (e, sym (kept-some (totalFault bs holder a b (length old)) old _ (λ z. n (e ∙ z))))
+
+  pub total-done : {h : Heading} {f : ℕ} → Found bs holder a b (length old) h f → totalFault bs holder a b (length old) ≡ 0 → (new : List ℕ) →
+      new ≡ runTotal bs f a (b - a) → (0 ≡ totalFault bs holder a b (length old)) × (new ≡ totalWords bs holder a b old)
+  total-done g z new q = (sym z, q ∙ ap (λ (f : ℕ). runTotal bs f a (b - a)) (g .file) ∙ sym (total-words z))
 
 -- what a total with no fault says
 pub record TotalClear (bs : List ℕ) (holder a b out : ℕ) : Type 0 where
@@ -107,28 +170,21 @@ pub record TotalClear (bs : List ℕ) (holder a b out : ℕ) : Type 0 where
   pub width : runInWidth bs (fileOf bs holder) a (b - a) ≡ true
 
 pub total-clear : (bs : List ℕ) (holder a b out : ℕ) → totalFault bs holder a b out ≡ 0 → TotalClear bs holder a b out
-unfolding totalFault lengthFault
+unfolding totalFault
 total-clear bs holder a b out e =
-    let e₁ = first-right (bundleFault bs) _ e in
-    let e₂ = first-right (holderFault bs holder) _ e₁ in
-    let e₃ = first-right (unless (eqb out (paramsOf bs .d)) 2) _ e₂ in
-    let run = run-in (bundleHeading bs) a b (first-left (runFault (bundleHeading bs) a b) _ e₃) in
+    let c = asked-clear bs holder a b out (first-left (askedFault bs holder a b out) _ e) in
     record {
-      no-fault = first-left (bundleFault bs) _ e;
-      file = holder-in bs holder (first-left (holderFault bs holder) _ e₁);
-      output = eqb-true _ _ (unless-held _ 2 (lit< tt) (first-left (unless (eqb out (paramsOf bs .d)) 2) _ e₂));
-      low = run .0;
-      high = run .1;
-      width = unless-held _ 3 (lit< tt) (first-right (runFault (bundleHeading bs) a b) _ e₃);
+      no-fault = c .no-fault;
+      file = c .file;
+      output = c .output;
+      low = c .low;
+      high = c .high;
+      width = unless-held _ 3 (lit< tt) (first-right (askedFault bs holder a b out) _ e);
     }
 
 pub clear-total : (bs : List ℕ) (holder a b out : ℕ) → TotalClear bs holder a b out → totalFault bs holder a b out ≡ 0
-unfolding totalFault lengthFault
 clear-total bs holder a b out c =
-    first-none (bundleFault bs) _ (c .no-fault)
-    ∙ first-none (holderFault bs holder) _ (holder-none bs holder (c .file))
-    ∙ pass (eqb out (paramsOf bs .d)) 2 _ (eq-eqb out (paramsOf bs .d) (c .output))
-    ∙ first-none (runFault (bundleHeading bs) a b) _ (run-none (bundleHeading bs) a b (c .low) (c .high))
+    total-width bs holder a b out (clear-asked bs holder a b out (c .no-fault) (c .file) (c .output) (c .low) (c .high))
     ∙ unless-yes _ 3 (c .width)
 
 -- ---- runs that follow each other
@@ -158,11 +214,6 @@ run-join bs f a b c l u x y =
           ap (λ (p : ℕ). allInWidth (paramsOf bs .k) (wordsOf bs f p)) e
           ∙ every-each (λ j. allInWidth (paramsOf bs .k) (wordsOf bs f (b + j))) (c - b) (a + i - b) y (omega arith))
     ])
-
-pub total-words : (bs : List ℕ) (holder a b : ℕ) (old : List ℕ) → totalFault bs holder a b (length old) ≡ 0 →
-    totalWords bs holder a b old ≡ runTotal bs (fileOf bs holder) a (b - a)
-unfolding totalWords
-total-words bs holder a b old e = kept-none (totalFault bs holder a b (length old)) old (runTotal bs (fileOf bs holder) a (b - a)) e
 
 pub totals-join : (bs : List ℕ) (holder a b c : ℕ) (old : List ℕ) → totalFault bs holder a b (length old) ≡ 0 →
     totalFault bs holder b c (length old) ≡ 0 →

@@ -31,14 +31,14 @@ words-length bs f p = words-count (wordSize (bundleHeading bs)) bs (paramsOf bs 
 pub padded : (d : ℕ) (e : Element) → length e ≡ d → e ++ drop d (replicate 6 0) ≡ held d e
 padded d e h = ap (λ (l : Element). l ++ drop d (replicate 6 0)) (sym (take-all d e (le-of-eq h)))
 
+and-assoc : (x y z : Bool) → (x && (y && z)) ≡ ((x && y) && z)
+and-assoc true y z = refl
+and-assoc false y z = refl
+
 pub width-append : (k : ℕ) (a b : Element) → allInWidth k (a ++ b) ≡ (allInWidth k a && allInWidth k b)
 unfolding allInWidth
 width-append k [] b = refl
-width-append k (x ∷ a) b = ap (λ (r : Bool). inWidth k x && r) (width-append k a b) ∙ assoc (inWidth k x) (allInWidth k a) (allInWidth k b)
-  where
-    assoc : (x y z : Bool) → (x && (y && z)) ≡ ((x && y) && z)
-    assoc true y z = refl
-    assoc false y z = refl
+width-append k (x ∷ a) b = ap (λ (r : Bool). inWidth k x && r) (width-append k a b) ∙ and-assoc (inWidth k x) (allInWidth k a) (allInWidth k b)
 
 -- the zeros are in width
 pub padded-width : (k d : ℕ) (e : Element) → d ≤ 6 → allInWidth k (e ++ drop d (replicate 6 0)) ≡ allInWidth k e
@@ -75,3 +75,20 @@ six-width k w h =
     last : (b : Bool) → b ≡ (b && true)
     last true = refl
     last false = refl
+
+-- words seen in two lanes: e and o before, v and u with them
+pub lanes : (k e o v u : ℕ) → inWidth k (bitOr (bitOr e v) (bitOr o u)) ≡ inWidth k (bitOr (bitOr e o) (bitOr v u))
+lanes k e o v u =
+    rw (or-width k (bitOr e v) (bitOr o u), or-width k e v, or-width k o u, or-width k (bitOr e o) (bitOr v u), or-width k e o, or-width k v u)
+    (four (inWidth k e) (inWidth k v) (inWidth k o) (inWidth k u))
+  where
+    four : (a c b d : Bool) → ((a && c) && (b && d)) ≡ ((a && b) && (c && d))
+    four false c b d = refl
+    four true true b d = refl
+    four true false true d = refl
+    four true false false d = refl
+
+-- the two of them after one another
+pub in-turn : (k x v u : ℕ) → inWidth k (bitOr x (bitOr v u)) ≡ inWidth k (bitOr (bitOr x v) u)
+in-turn k x v u =
+    rw (or-width k x (bitOr v u), or-width k v u, or-width k (bitOr x v) u, or-width k x v) (and-assoc (inWidth k x) (inWidth k v) (inWidth k u))

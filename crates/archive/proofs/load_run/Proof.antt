@@ -3,17 +3,20 @@ use borrow.Author.Needs.{needs}
 use native.Mathlib.Omega.{arith}
 use mathlib.Core.Path.{_≡_, ap, _∙_}
 use mathlib.Core.Bool.{Bool}
+use mathlib.Core.List.{List, []}
 use Prim.Native.Nat.{ℕ, _-_, _≤_, _<_}
-use lib.ListN.{length, length-set}
+use lib.ListN.{length, getD, set, length-set}
+use lib.Seq.{getD-set-same, set-set}
 use denote.Ref.{now}
 use Rattle.words.specs.Word.{inWidth}
-use Rattle.galois.specs.Element.{Element, held}
+use Rattle.galois.specs.Element.{Element, zeroE, held}
 use Rattle.bundle.specs.Bundle.{filesOf}
 use Rattle.bundle.proofs.Bundles.{bundle-ok, ranges-of, files-most}
-use Rattle.totals.specs.Total.{runTotal, runInWidth}
+use Rattle.totals.specs.Total.{runTotal, runInWidth, addedTo}
 use Rattle.totals.specs.Values.{every}
 use Rattle.totals.proofs.Values.{filled, values-start, values-next, values-done}
 use Rattle.totals.proofs.Words.{none-seen, more-seen}
+use Rattle.totals.proofs.Runs.{run-held}
 use Rattle.archive.proofs.load_run.Statement.{statement}
 use Rattle.archive.proofs.load_run.Tie as tie
 
@@ -40,43 +43,51 @@ loop-holds c =
     let s = c .before in
     (omega arith, s .pre .5, none-seen (s .args .h .params .k) (run s), values-start (row s) (s .args .files) (s .args .shares .now))
 
-run-sum-requires : tie.Need-run-sum-requires Inv-loop μ-loop
-run-sum-requires c κs = search needs
+-- the row that is lent is there, and of zeros
+here : (c : tie.In-loop Inv-loop μ-loop) → c .before .loop .f < 63
+here c = omega (arith, few (c .before .before .before), c .loop-test .taken)
 
-reduce-requires : tie.Need-reduce-requires Inv-loop μ-loop
-reduce-requires c κs =
-    let s = c .before .before .before .before .before .before in
-    let b = ranges-of (now (s .args .bytes)) (bundle-ok (now (s .args .bytes)) (s .pre .0)) (s .args .h) (s .pre .1) .book in
-    (b .k-low, b .k-high)
-
--- the row that it writes is there
-here : (c : tie.After-reduce Inv-loop μ-loop) → c .before .before .before .before .before .loop .f < 63
-here c = omega (arith, few (c .before .before .before .before .before .before .before), c .before .before .before .before .loop-test .taken)
-
-mul-t13 : tie.Need-mul-t13 Inv-loop μ-loop
-mul-t13 c = omega (arith, here c)
+mul-t11 : tie.Need-mul-t11 Inv-loop μ-loop
+mul-t11 c = omega (arith, here c)
 
 element-set-from-shares : tie.Need-element-set-from-shares Inv-loop μ-loop
 element-set-from-shares c = here c
 
-add-f : tie.Need-add-f Inv-loop μ-loop
-add-f c = search needs
+mul-add-run : tie.Need-mul-add-run Inv-loop μ-loop
+mul-add-run c = omega (arith, here c)
 
-loop-less : tie.Need-loop-less Inv-loop μ-loop
-loop-less c = search needs
+index-1-add-run : tie.Need-index-1-add-run Inv-loop μ-loop
+index-1-add-run c = here c
+
+zeros : (c : tie.In-loop Inv-loop μ-loop) → let l = c .before .loop in getD (set (l .shares) (l .f) (zeroE 6)) (l .f) [] ≡ zeroE 6
+zeros c = let l = c .before .loop in getD-set-same (l .shares) (l .f) (zeroE 6) [] (omega (arith, l .inv .1, here c))
+
+book : (s : tie.Start Inv-loop μ-loop) → s .args .h .params .d ≤ 6
+book s = let bs = now (s .args .bytes) in ranges-of bs (bundle-ok bs (s .pre .0)) (s .args .h) (s .pre .1) .book .d-high
+
+add-run-requires : tie.Need-add-run-requires Inv-loop μ-loop
+add-run-requires c κs =
+    let i = c .before in
+    let s = i .before .before .before in
+    (s .pre .0, s .pre .1, omega (arith, s .pre .2, i .loop-test .taken), s .pre .3, s .pre .4, rw (zeros i) (book s))
 
 loop-again : tie.Need-loop-again Inv-loop μ-loop
 loop-again c =
-    let l = c .before .before .before .before .before in
-    let s = l .before .before in
+    let i = c .before .before in
+    let l = i .before .loop in
+    let s = i .before .before .before in
     let a = s .args in
-    let m = c .before .before .before .before .loop-test .taken in
-    let r = c .before .before .before .run-sum in (
+    let r = c .add-run in
+    let v = r .last .1 .1 .1 .1 .1 .0 in
+    let e : set (set (l .shares) (l .f) (zeroE 6)) (l .f) v ≡ set (l .shares) (l .f) v = set-set (l .shares) (l .f) (zeroE 6) v in
+    let q : v ≡ row s (l .f) =
+    r .ensures .1
+    ∙ ap (λ (x : List ℕ). addedTo (a .h .params .k) x (runTotal (now (a .bytes)) (l .f) (a .a) (a .b - a .a))) (zeros i)
+    ∙ run-held (now (a .bytes)) (a .h) (s .pre .1) (l .f) (a .a) (a .b - a .a) (book s) in (
       omega arith,
-      length-set (l .loop .shares) (l .loop .f) (c .reduce .result) ∙ l .loop .inv .1,
-      more-seen (a .h .params .k) (l .loop .seen) (r .result .seen) (run s) (l .loop .f) (l .loop .inv .2) (r .ensures .0),
-      values-next (row s) (a .files) (a .shares .now) (l .loop .shares) (l .loop .f) (c .reduce .result) (l .loop .inv .3) m
-          (omega (arith, few s, s .pre .5)) (c .reduce .ensures ∙ r .ensures .1),
+      ap length e ∙ length-set (l .shares) (l .f) v ∙ l .inv .1,
+      more-seen (a .h .params .k) (l .seen) (r .result) (run s) (l .f) (l .inv .2) (r .ensures .0),
+      e ∙ values-next (row s) (a .files) (a .shares .now) (l .shares) (l .f) v (l .inv .3) (i .loop-test .taken) (omega (arith, few s, s .pre .5)) q,
     )
 
 returns : tie.Need-returns Inv-loop μ-loop
@@ -96,11 +107,12 @@ load-run-spec =
     Inv-loop
     μ-loop
     loop-holds
-    run-sum-requires
-    reduce-requires
-    mul-t13
+    mul-t11
     element-set-from-shares
-    add-f
-    loop-less
+    mul-add-run
+    index-1-add-run
+    add-run-requires
+    (λ c. search needs)
+    (λ c. search needs)
     loop-again
     returns)
