@@ -136,6 +136,11 @@ uint8_t yikes_open_place(const uint8_t *bundle, size_t bundle_length, size_t pla
 /* The total of a holder's file over the places a to b - 1: out has d words. Then gives 4, 2, 9, 3. */
 uint8_t yikes_total(const uint8_t *bundle, size_t bundle_length, size_t holder, size_t a, size_t b, uint64_t *out, size_t out_length);
 
+/* Adds the same total to running, which the caller lends: d words, each below 2^k, that are an element before the call and the element plus the
+ * total after it, word by word modulo 2^k. A sum over several runs or bundles needs no second array: a to b and then b to c leave what a to c would,
+ * and zero words become what yikes_total gives. Then gives 4, 2, 9, 3; 3 for a word of the run or of running, of running also where a is b. */
+uint8_t yikes_add_total(const uint8_t *bundle, size_t bundle_length, size_t holder, size_t a, size_t b, uint64_t *running, size_t running_length);
+
 /* Opens the sum of the jobs at the places a to b - 1, as yikes_open_place does one job, but declines where a word of these jobs is 2^k or more in
  * any file, also in a run of one place. Then gives 2, 9, 3, 5, 6. */
 uint8_t yikes_open_run(const uint8_t *bundle, size_t bundle_length, size_t a, size_t b, uint64_t *out, size_t out_length, uint64_t *wrong,

@@ -1,5 +1,5 @@
 #!/usr/bin/env python3
-"""A second implementation of papers 01 and 02 (K1, K2), for comparison: ring, dealing, opening, file writer, bundle reader, listing, mending.
+"""A second implementation of papers 01 and 02 (K1 to K3), for comparison: ring, dealing, opening, file writer, bundle reader, listing, mending.
 
 Without arguments this is the program `open`: a bundle on standard input, its listing on standard output. With `--mend` it prints what `mend` does.
 `--selftest` checks the paper's examples, and three ways of opening against each other.
@@ -520,6 +520,17 @@ def total(data, holder, a, b):
     return bundle.total(holder, a, b)
 
 
+def add_total(data, holder, a, b, running):
+    """K3: "exactly the lent element plus the run's total". Order: the bundle's faults, 4, 2, 9, 3, of the element "too"."""
+    bundle = Bundle(data)
+    require(holder in bundle.files, 4)
+    require(len(running) == bundle.book.d, 2)
+    bundle.check_run(a, b)
+    ring = ring_of(bundle.book.k, bundle.book.d)
+    require(ring.in_width(running), 3)
+    return ring.add(running, bundle.total(holder, a, b))
+
+
 def open_place(data, place):
     """Words and wrong holders of one job. Order: the bundle's faults, 9, 5, 6."""
     bundle = Bundle(data)
@@ -704,6 +715,21 @@ def test_bundle():
     assert set(with_cuts) == {0, 7}
 
 
+def test_added():
+    """K3 on the paper's sample: sums over runs and files, and what is declined, of an empty run too."""
+    data, lent = sample(), (7, 5)
+    assert add_total(data, 1, 0, 2, lent) == (1, 1) and add_total(data, 1, 0, 2, (0, 0)) == total(data, 1, 0, 2)
+    assert add_total(data, 1, 1, 2, add_total(data, 1, 0, 1, lent)) == (1, 1)
+    assert add_total(data, 3, 0, 2, add_total(data, 2, 0, 2, lent)) == (5, 5)
+    assert [add_total(data, 3, place, place, lent) for place in range(3)] == 3 * [lent]
+    assert [number_of(add_total, data, holder, 1, 0, (8,)) for holder in (0, 4, 1)] == [4, 4, 2]
+    assert [number_of(add_total, data, 1, 0, 3, words) for words in ((), (7,), (8, 5, 0), (8, 5), lent)] == [2, 2, 2, 9, 9]
+    assert [number_of(add_total, data, 1, a, b, (7, 8)) for a, b in ((0, 2), (0, 0), (2, 2), (1, 0), (3, 3))] == [3, 3, 3, 9, 9]
+    assert number_of(add_total, data[:255], 0, 1, 0, ()) == 7
+    late = data[:-1] + b"\1"  # the last word of all
+    assert [number_of(add_total, late, 3, a, b, lent) for a, b in ((0, 1), (0, 2), (1, 2), (2, 2))] == [0, 3, 3, 0]
+
+
 def test_mended():
     """K2 on the paper's sample: one share replaced, job 11 as it was; wide words replaced whole; what is declined."""
     data, new = sample(), sample({**SAMPLE_JOBS, 10: [(5, 2)] * 3})
@@ -834,7 +860,8 @@ def test_mending(rng):
 
 
 def test_runs(rng):
-    """The opened total of a run is the sum of its jobs, with the holders wrong in it named, and reads as the signed sum."""
+    """The opened total of a run is the sum of its jobs, with the holders wrong in it named, and reads as the signed sum; a file's total added to an
+    element is that of the parts added one after the other."""
     book, e, jobs = Book(32, 3, 6, 1), 2, 5
     ring = ring_of(book.k, book.d)
     for _ in range(20):
@@ -843,8 +870,12 @@ def test_runs(rng):
         columns[3][5] = ring.add(columns[3][5], (0, 0, 1 << 31))
         files = [write_file(book, i, 7, list(range(jobs)), sum((c[i] for c in columns), ())) for i in range(1, 7)]
         a, b = sorted(rng.choices(range(jobs + 1), k=2))
-        words, wrong = open_run(order(e) + b"".join(files), a, b)
+        data, middle, lent = order(e) + b"".join(files), rng.randint(a, b), random_element(rng, ring)
+        words, wrong = open_run(data, a, b)
         assert wrong == ([5] if a <= 3 < b else [])
+        for i in range(1, 7):
+            assert add_total(data, i, a, b, lent) == ring.add(lent, total(data, i, a, b))
+            assert add_total(data, i, middle, b, add_total(data, i, a, middle, lent)) == add_total(data, i, a, b, lent)
         for j in range(book.d):
             assert ring.signed(words[j]) == sum(ring.signed(word[j]) for word in dealt[a:b])
 
@@ -854,6 +885,7 @@ def selftest():
     test_marked()
     test_wide()
     test_bundle()
+    test_added()
     test_mended()
     test_ring(rng)
     test_runs(rng)

@@ -341,6 +341,8 @@ static void refuses(uint8_t number, const uint8_t *bytes, size_t n) {
     DECLINES(number, yikes_open_place(bytes, n, 0, OUT, o.second, 2));
     DECLINES(number, yikes_total(bytes, n, 1, 0, 2, OUT));
     DECLINES(number, yikes_total(bytes, n, 0, 9, 8, NULL, 0));
+    DECLINES(number, yikes_add_total(bytes, n, 1, 0, 2, OUT));
+    DECLINES(number, yikes_add_total(bytes, n, 0, 9, 8, NULL, 0));
     DECLINES(number, yikes_open_run(bytes, n, 0, 1, OUT, SECOND));
     DECLINES(number, yikes_open_run(bytes, n, SIZE_MAX, 0, NULL, 0, NULL, 0));
     DECLINES(number, yikes_fetch_body(bytes, n, 1, 0, o.second, 2));
@@ -623,6 +625,91 @@ static void openings(void) {
           "too few files");
 }
 
+/* yikes_add_total on an output that is set to lent words first: untouched() then says that they stand there still. */
+static uint8_t add_total(const uint8_t *bytes, size_t n, size_t holder, size_t a, size_t b, const uint64_t *lent, size_t length) {
+    memcpy(o.words, lent, length * sizeof *lent);
+    memcpy(fresh.words, lent, length * sizeof *lent);
+    return yikes_add_total(bytes, n, holder, a, b, o.words, length);
+}
+
+/* Totals added to a lent element. In the bundle of 256 bytes the files have (5, 2) and (5, 2), (5, 2) and (1, 2), (1, 2) and (7, 2). */
+static void adding(void) {
+    const uint64_t lent[3] = {7, 5, 1}, zero[2] = {0, 0}, total[2] = {2, 4}, sum[2] = {1, 1}, first[2] = {4, 7}, third[2] = {0, 7}, all[2] = {7, 1};
+    const uint64_t wide[3][2] = {{8, 5}, {7, UINT64_MAX}, {UINT64_C(1) << 63, 0}};
+    const size_t n = sizeof bundle;
+    uint8_t late[256];
+    size_t i;
+
+    GIVES(add_total(bundle, n, 1, 0, 2, zero, 2), now_holds(total, 2, NULL, 0));
+    GIVES(add_total(bundle, n, 1, 0, 2, lent, 2), now_holds(sum, 2, NULL, 0));
+    GIVES(add_total(bundle, n, 1, 0, 1, lent, 2), now_holds(first, 2, NULL, 0));
+    for (i = 0; i <= 2; i++) GIVES(add_total(bundle, n, 3, i, i, lent, 2), untouched());
+    /* one run after another, and then the other files */
+    GIVES(add_total(bundle, n, 1, 0, 1, lent, 2) || yikes_add_total(bundle, n, 1, 1, 2, OUT), now_holds(sum, 2, NULL, 0));
+    GIVES(add_total(bundle, n, 1, 0, 2, lent, 2) || yikes_add_total(bundle, n, 2, 0, 2, OUT) || yikes_add_total(bundle, n, 3, 0, 2, OUT),
+          now_holds(all, 2, NULL, 0));
+
+    /* what an output is filled with is wide, so that 3 would hold too */
+    DECLINES(YIKES_HOLDER, yikes_add_total(bundle, n, 0, 9, 8, NULL, 0));
+    DECLINES(YIKES_HOLDER, yikes_add_total(bundle, n, 4, 9, 8, o.words, 3));
+    DECLINES(YIKES_HOLDER, yikes_add_total(bundle, n, SIZE_MAX, 0, 2, OUT));
+    DECLINES(YIKES_HOLDER, add_total(bundle, n, 4, 0, 2, lent, 2));
+    DECLINES(YIKES_LENGTH, yikes_add_total(bundle, n, 1, 2, 1, o.words, 3));
+    DECLINES(YIKES_LENGTH, yikes_add_total(bundle, n, 1, 2, 1, NULL, 0));
+    DECLINES(YIKES_LENGTH, yikes_add_total(bundle, n, 1, 0, 2, o.words, HUGE_LENGTH));
+    DECLINES(YIKES_LENGTH, add_total(bundle, n, 1, 0, 2, lent, 1));
+    DECLINES(YIKES_LENGTH, add_total(bundle, n, 1, 0, 2, lent, 3));
+    DECLINES(YIKES_OUT_OF_RANGE, yikes_add_total(bundle, n, 1, 2, 1, OUT));
+    DECLINES(YIKES_OUT_OF_RANGE, yikes_add_total(bundle, n, 1, SIZE_MAX, SIZE_MAX, OUT));
+    DECLINES(YIKES_OUT_OF_RANGE, add_total(bundle, n, 1, 2, 1, lent, 2));
+    DECLINES(YIKES_OUT_OF_RANGE, add_total(bundle, n, 1, 0, 3, lent, 2));
+    DECLINES(YIKES_OUT_OF_RANGE, add_total(bundle, n, 1, 0, SIZE_MAX, lent, 2));
+    DECLINES(YIKES_OUT_OF_RANGE, add_total(bundle, n, 1, 3, 3, lent, 2));
+    for (i = 0; i < COUNT(wide); i++) {
+        DECLINES(YIKES_WIDE_WORD, add_total(bundle, n, 1, 0, 2, wide[i], 2));
+        DECLINES(YIKES_WIDE_WORD, add_total(bundle, n, 1, 0, 0, wide[i], 2));
+        DECLINES(YIKES_WIDE_WORD, add_total(bundle, n, 1, 2, 2, wide[i], 2));
+    }
+
+    /* the last word of holder 3's last job made wide: it counts in the runs that have it */
+    memcpy(late, bundle, n);
+    late[255] = 1;
+    DECLINES(YIKES_WIDE_WORD, add_total(late, n, 3, 0, 2, lent, 2));
+    DECLINES(YIKES_WIDE_WORD, add_total(late, n, 3, 1, 2, lent, 2));
+    GIVES(add_total(late, n, 3, 2, 2, lent, 2), untouched());
+    GIVES(add_total(late, n, 3, 0, 1, lent, 2), now_holds(third, 2, NULL, 0));
+    GIVES(add_total(late, n, 1, 0, 2, lent, 2), now_holds(sum, 2, NULL, 0));
+    /* no jobs: nothing to add, but the element is looked at */
+    check(yikes_write_file(BOOK, 0, 3, 7, NULL, 0, NULL, 0, late + 7, 23) == YIKES_OK, __LINE__, "write_file");
+    GIVES(add_total(late, 30, 3, 0, 0, lent, 2), untouched());
+    DECLINES(YIKES_WIDE_WORD, add_total(late, 30, 3, 0, 0, wide[0], 2));
+    DECLINES(YIKES_OUT_OF_RANGE, add_total(late, 30, 3, 0, 1, wide[0], 2));
+}
+
+/* Forty jobs of the largest book, added to drawn words as sums in C say, in one run and in two; then with the last word of all made wide, which none
+ * of 64 bits is. */
+static void adding_many(uint64_t k) {
+    enum { JOBS = 40, SIZE = 23 + JOBS * (14 + 8 * 6) };
+    static uint8_t bytes[7 + SIZE];
+    uint64_t numbers[JOBS], words[JOBS * 6], lent[6], sum[6];
+    size_t i;
+    for (i = 0; i < 6; i++) lent[i] = sum[i] = draw() >> (64 - k);
+    for (i = 0; i < JOBS; i++) numbers[i] = i;
+    for (i = 0; i < COUNT(words); i++) {
+        words[i] = draw() >> (64 - k);
+        sum[i % 6] = (sum[i % 6] + words[i]) & UINT64_MAX >> (64 - k);
+    }
+    check(yikes_write_order(0, bytes, 7) == YIKES_OK, __LINE__, "write_order");
+    check(yikes_write_file(k, 6, 63, 20, 63, 7, numbers, JOBS, words, COUNT(words), bytes + 7, SIZE) == YIKES_OK, __LINE__, "write_file");
+    GIVES(add_total(bytes, sizeof bytes, 63, 0, JOBS, lent, 6), now_holds(sum, 6, NULL, 0));
+    GIVES(add_total(bytes, sizeof bytes, 63, 0, 13, lent, 6) || yikes_add_total(bytes, sizeof bytes, 63, 13, JOBS, o.words, 6),
+          now_holds(sum, 6, NULL, 0));
+    bytes[sizeof bytes - 1] ^= 128;
+    sum[5] ^= UINT64_C(1) << 63;
+    if (k == 64) GIVES(add_total(bytes, sizeof bytes, 63, 0, JOBS, lent, 6), now_holds(sum, 6, NULL, 0));
+    else DECLINES(YIKES_WIDE_WORD, add_total(bytes, sizeof bytes, 63, 0, JOBS, lent, 6));
+}
+
 /* Paper 02's example: in the bundle of 256 bytes holder 3's share of job 10 is replaced, and job 11, which declines, stays. */
 static void mending(void) {
     const uint64_t job[2] = {5, 2}, none[1] = {0};
@@ -707,6 +794,10 @@ int main(void) {
     lone_files();
     reading();
     openings();
+    adding();
+    adding_many(64);
+    adding_many(63);
+    adding_many(8);
     mending();
     mending_largest(64);
     mending_largest(63);

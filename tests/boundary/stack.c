@@ -2,6 +2,7 @@
  * The stack that each call of include/yikescanvas.h uses, measured: each runs on a stack of its own that was painted before, with the largest
  * parameters at which a word can be wide (d 6, n 63, words of 63 bits), t 20 and 21 wrong shares where it opens, 11 of them wide where it opens one
  * job or mends, and each prints its name and the bytes from the painted stack's top to the lowest one that changed, less what an empty call uses.
+ * yikes_add_total runs once more, where a word is wide and it takes off again what it added.
  */
 #define _GNU_SOURCE
 #include <stdint.h>
@@ -15,7 +16,7 @@ enum { K = 63, D = 6, N = 63, T = 20, E = 21, JOBS = 3, STACK = 1 << 20, FILE_BY
 #define BOOK K, D, N, T
 #define JOB_WORDS (JOBS * D)
 
-static uint64_t job[D], coefficients[T * D], shares[N * D], holders[N], words[N][JOB_WORDS], out[YIKES_ABOUT], wrong[2], dealt[N * D];
+static uint64_t job[D], coefficients[T * D], shares[N * D], holders[N], words[N][JOB_WORDS], out[YIKES_ABOUT], wrong[2], dealt[N * D], running[D];
 static const uint64_t numbers[JOBS] = {1, 20, 300};
 static uint8_t files[N * FILE_BYTES], bundle[7 + N * FILE_BYTES], wide[sizeof bundle], copy[sizeof bundle], line[YIKES_LINE], order[7];
 
@@ -38,6 +39,10 @@ static void job_number(void) { answer = yikes_job_number(bundle, sizeof bundle, 
 static void file_part(void) { answer = yikes_file(bundle, sizeof bundle, N - 1, out, 3); }
 static void open_place(void) { answer = yikes_open_place(wide, sizeof wide, JOBS - 1, out, D, wrong, 1); }
 static void total(void) { answer = yikes_total(bundle, sizeof bundle, N, 0, JOBS, out, D); }
+static void add_total(void) {
+    answer = yikes_add_total(bundle, sizeof bundle, N, 0, JOBS, running, D);
+    if (yikes_add_total(wide, sizeof wide, N - 1, 0, JOBS, running, D) != YIKES_WIDE_WORD) answer = 1;
+}
 static void open_run(void) { answer = yikes_open_run(bundle, sizeof bundle, 0, JOBS, out, D, wrong, 1); }
 static void fetch_body(void) { answer = yikes_fetch_body(bundle, sizeof bundle, N, 1, wrong, 2); }
 static void fetch_fault(void) { answer = yikes_fetch_fault(bundle, sizeof bundle, N, 1); }
@@ -65,6 +70,7 @@ static const struct {
              {"yikes_file", file_part},
              {"yikes_open_place", open_place},
              {"yikes_total", total},
+             {"yikes_add_total", add_total},
              {"yikes_open_run", open_run},
              {"yikes_fetch_body", fetch_body},
              {"yikes_fetch_fault", fetch_fault},

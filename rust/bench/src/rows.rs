@@ -67,11 +67,12 @@ const BOOKS: [Book; 3] = [
     Book { p: Params { k: 64, d: 6, n: 63, t: 20 }, e: 21 },
 ];
 
-/// Different inputs of a row that opens or deals; jobs in a bundle whose places are opened, and in one that is accepted or added up; the most bytes
-/// of a bundle that is mended, which are those that the programs take.
+/// Different inputs of a row that opens or deals; jobs in a bundle whose places are opened, and in one that is accepted or added up; the most jobs of
+/// a file; the most bytes of a bundle that is mended, which are those that the programs take.
 const INPUTS: usize = 16;
 const PLACES: usize = 16;
 const JOBS: usize = 100;
+const MOST_JOBS: usize = 1000;
 const MOST_INPUT: usize = 65_536;
 
 #[derive(Clone, Copy)]
@@ -93,7 +94,7 @@ fn number(answer: Result<(), Refusal>) -> u8 {
     answer.map_or_else(|refusal| refusal as u8, |()| 0)
 }
 
-const ROWS: [(&str, usize, Make); 14] = [
+const ROWS: [(&str, usize, Make); 17] = [
     ("deal", INPUTS, dealing),
     ("open, none wrong", INPUTS, |random, book| opening(random, book, None)),
     ("open, e wrong in any bits", INPUTS, |random, book| opening(random, book, Some(Damage::AnyBits))),
@@ -103,7 +104,10 @@ const ROWS: [(&str, usize, Make); 14] = [
     ("open all places, different holders wrong", PLACES, |random, book| places(random, book, Wrong::Different)),
     ("accept", 1, accepting),
     ("accept, beside the sum of the bytes", 1, accepting_beside_checksum),
-    ("total of one file", 1, total),
+    ("total of one file", 1, |random, book| total(bundle(random, book, JOBS, Wrong::Same), book.p.d, book.p.n, JOBS)),
+    ("total of 1,000 jobs", 1, |random, book| total(long_file(random, book.p), book.p.d, 1, MOST_JOBS)),
+    ("total of 1,000 jobs added in place", 1, adding),
+    ("total of 1,000 jobs added in place, beside total and add", 1, adding_beside_total),
     ("open a run", 1, run),
     ("mend, none wrong", 1, |random, book| mending(random, book, Wrong::Nobody)),
     ("mend, e wrong in each job", 1, |random, book| mending(random, book, Wrong::Different)),
@@ -258,16 +262,59 @@ fn accepting_beside_checksum(random: &mut Random, book: Book) -> Work {
     Work { out: vec![0], call }
 }
 
-fn total(random: &mut Random, book: Book) -> Work {
-    let Params { d, n, .. } = book.p;
-    let bytes = bundle(random, book, JOBS, Wrong::Same);
+/// The total of a holder's file that has so many jobs.
+fn total(bytes: Vec<u8>, d: usize, holder: usize, jobs: usize) -> Work {
     let call: Call = Box::new(move |side, out| {
         match side {
-            Side::Library => library::total(&bytes, n, 0, JOBS, out),
-            Side::Plain => number(plain::total(&bytes, n, 0, JOBS, out)),
+            Side::Library => library::total(&bytes, holder, 0, jobs, out),
+            Side::Plain => number(plain::total(&bytes, holder, 0, jobs, out)),
         };
     });
     Work { out: vec![0; d], call }
+}
+
+/// A bundle of the first holder's file alone, with as many jobs as a file can have.
+fn long_file(random: &mut Random, p: Params) -> Vec<u8> {
+    let mut bytes = vec![0; 7 + 23 + MOST_JOBS * (14 + 8 * p.d)];
+    let (order, file) = bytes.split_at_mut(7);
+    let numbers: Vec<u64> = (0..MOST_JOBS as u64).collect();
+    second::write_order(0, order).expect("seven bytes");
+    second::write_file(p, 1, 7, &numbers, &random.words(p.k, MOST_JOBS * p.d), file).expect("good inputs");
+    bytes
+}
+
+/// The element that is lent is the same for every call.
+fn adding(random: &mut Random, book: Book) -> Work {
+    let (bytes, lent) = (long_file(random, book.p), random.words(book.p.k, book.p.d));
+    let call: Call = Box::new(move |side, out| {
+        out.copy_from_slice(&lent);
+        let answer = match side {
+            Side::Library => library::add_total(&bytes, 1, 0, MOST_JOBS, out),
+            Side::Plain => number(plain::add_total(&bytes, 1, 0, MOST_JOBS, out)),
+        };
+        assert_eq!(answer, 0, "a call is declined");
+    });
+    Work { out: vec![0; book.p.d], call }
+}
+
+/// The column of plain Rust is the library's total in an array, and the library's sum of that and the element here.
+fn adding_beside_total(random: &mut Random, book: Book) -> Work {
+    let p = book.p;
+    let (bytes, lent) = (long_file(random, p), random.words(p.k, p.d));
+    let call: Call = Box::new(move |side, out| {
+        let answers = match side {
+            Side::Library => {
+                out.copy_from_slice(&lent);
+                [library::add_total(&bytes, 1, 0, MOST_JOBS, out), 0]
+            }
+            Side::Plain => {
+                let total = &mut [0; 6][..p.d];
+                [library::total(&bytes, 1, 0, MOST_JOBS, total), library::add(p, &lent, total, out)]
+            }
+        };
+        assert_eq!(answers, [0, 0], "a call is declined");
+    });
+    Work { out: vec![0; p.d], call }
 }
 
 fn run(random: &mut Random, book: Book) -> Work {

@@ -5,6 +5,7 @@ use crate::mending;
 use crate::openings::damage;
 use crate::outcome::{number, on_bytes, on_words, Answers};
 use crate::random::Random;
+use crate::totals;
 use second::Params;
 use std::ops::Range;
 
@@ -48,7 +49,9 @@ pub fn bundle(random: &mut Random, answers: &mut Answers) -> Result<(), String> 
     reads(random, answers, &written, &bytes)?;
     lone_file(random, answers, &written, &bytes)?;
     rewrite(random, answers, &bytes)?;
-    mending::mend(random, answers, &bytes)
+    mending::mend(random, answers, &bytes)?;
+    let (holder, run) = (index(random, written.params.n + 1), run(random, &written));
+    totals::add_total(random, answers, written.params, &bytes, holder, run)
 }
 
 /// Mostly a good number below `bound`, otherwise one at its edge or beyond.

@@ -7,3 +7,4 @@ pub mod mending;
 pub mod openings;
 pub mod outcome;
 pub mod random;
+pub mod totals;

@@ -83,6 +83,10 @@ pub fn total(bundle: &[u8], holder: usize, a: usize, b: usize, out: &mut [u64]) 
     unsafe { yikes_total(bundle.as_ptr(), bundle.len(), holder, a, b, out.as_mut_ptr(), out.len()) }
 }
 
+pub fn add_total(bundle: &[u8], holder: usize, a: usize, b: usize, running: &mut [u64]) -> u8 {
+    unsafe { yikes_add_total(bundle.as_ptr(), bundle.len(), holder, a, b, running.as_mut_ptr(), running.len()) }
+}
+
 #[rustfmt::skip]
 pub fn open_run(bundle: &[u8], a: usize, b: usize, out: &mut [u64], wrong: &mut [u64]) -> u8 {
     unsafe {

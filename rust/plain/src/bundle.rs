@@ -1,7 +1,7 @@
 //! Calls on a bundle. Each reads it all first; after that every record stands at a computed position.
 
 use crate::decode::{decode, Shares};
-use crate::ring::{add, eval, mask, Element};
+use crate::ring::{add, eval, mask, sub, Element};
 use crate::{demand, enough, in_width, open_shares, Params, Refusal};
 use std::array::from_fn;
 use std::ops::Range;
@@ -141,24 +141,63 @@ impl<'a> Bundle<'a> {
         in_width(self.heading.params.k, &[seen])
     }
 
+    /// The words of a file's jobs at the places of a run.
+    fn run<const D: usize>(&self, file: usize, run: Range<usize>) -> impl Iterator<Item = Element<D>> + 'a {
+        let jobs = &self.bytes[self.start(file) + HEADING_SIZE..];
+        jobs[run.start * job_size(D)..run.end * job_size(D)].chunks_exact(job_size(D)).map(words)
+    }
+
+    /// Adds a file's jobs at the places of a run, and tells whether no word of them is wide.
+    fn add_run<const D: usize>(&self, file: usize, run: Range<usize>, running: &mut Element<D>) -> bool {
+        let mut seen = 0;
+        for words in self.run(file, run) {
+            seen = together(seen, &words);
+            *running = add(*running, words);
+        }
+        self.cut(running);
+        in_width(self.heading.params.k, &[seen])
+    }
+
+    /// Takes them off again.
+    fn take_run<const D: usize>(&self, file: usize, run: Range<usize>, running: &mut Element<D>) {
+        for words in self.run(file, run) {
+            *running = sub(*running, words);
+        }
+        self.cut(running);
+    }
+
+    fn cut<const D: usize>(&self, words: &mut Element<D>) {
+        *words = words.map(|w| w & mask(self.heading.params.k));
+    }
+
     /// The sum of a file's jobs at the places of a run, if their words are in width.
     fn total<const D: usize>(&self, file: usize, run: Range<usize>) -> Result<Element<D>, Refusal> {
         let mut sum = [0; D];
-        let mut seen = 0;
-        let jobs = &self.bytes[self.start(file) + HEADING_SIZE..];
-        for record in jobs[run.start * job_size(D)..run.end * job_size(D)].chunks_exact(job_size(D)) {
-            let words = words(record);
-            seen = together(seen, &words);
-            sum = add(sum, words);
-        }
-        let mask = mask(self.heading.params.k);
-        demand(seen & !mask == 0, Refusal::WideWord)?;
-        Ok(sum.map(|w| w & mask))
+        demand(self.add_run(file, run, &mut sum), Refusal::WideWord)?;
+        Ok(sum)
     }
 
     fn write_total<const D: usize>(&self, file: usize, run: Range<usize>, out: &mut [u64]) -> Result<(), Refusal> {
         out.copy_from_slice(&self.total::<D>(file, run)?);
         Ok(())
+    }
+
+    fn add_total<const D: usize>(&self, file: usize, run: Range<usize>, running: &mut [u64]) -> Result<(), Refusal> {
+        demand(in_width(self.heading.params.k, running), Refusal::WideWord)?;
+        let running: &mut Element<D> = running.try_into().expect("d words");
+        if self.add_run(file, run.clone(), running) {
+            return Ok(());
+        }
+        self.take_run(file, run, running);
+        Err(Refusal::WideWord)
+    }
+
+    /// The file of a holder, if the run and an output of some length are right too.
+    fn asked(&self, holder: usize, a: usize, b: usize, length: usize) -> Result<usize, Refusal> {
+        let file = (0..self.files).find(|f| self.holder(*f) == holder as u64).ok_or(Refusal::Holder)?;
+        demand(length == self.heading.params.d, Refusal::Length)?;
+        demand(a <= b && b <= self.heading.jobs, Refusal::OutOfRange)?;
+        Ok(file)
     }
 
     fn open_place<const D: usize, const N: usize>(&self, place: usize, out: &mut [u64], wrong: &mut [u64]) -> Result<(), Refusal> {
@@ -215,10 +254,15 @@ pub fn open_run(bytes: &[u8], a: usize, b: usize, out: &mut [u64], wrong: &mut [
 
 pub fn total(bytes: &[u8], holder: usize, a: usize, b: usize, out: &mut [u64]) -> Result<(), Refusal> {
     let bundle = Bundle::read(bytes)?;
-    let file = (0..bundle.files).find(|f| bundle.holder(*f) == holder as u64).ok_or(Refusal::Holder)?;
-    demand(out.len() == bundle.heading.params.d, Refusal::Length)?;
-    demand(a <= b && b <= bundle.heading.jobs, Refusal::OutOfRange)?;
+    let file = bundle.asked(holder, a, b, out.len())?;
     for_d!(bundle.heading.params.d, bundle.write_total::<D>(file, a..b, out))
+}
+
+/// The same total, added to the lent element as the words are read; where one of them is wide, the run is taken off again.
+pub fn add_total(bytes: &[u8], holder: usize, a: usize, b: usize, running: &mut [u64]) -> Result<(), Refusal> {
+    let bundle = Bundle::read(bytes)?;
+    let file = bundle.asked(holder, a, b, running.len())?;
+    for_d!(bundle.heading.params.d, bundle.add_total::<D>(file, a..b, running))
 }
 
 /// The bundle with every wrong share replaced, into an output of its length.

@@ -24,7 +24,7 @@ mod decode;
 mod field;
 mod ring;
 
-pub use bundle::{accept, mend, open_place, open_run, total};
+pub use bundle::{accept, add_total, mend, open_place, open_run, total};
 pub use second::{Params, Refusal};
 
 use decode::{decode, Shares};

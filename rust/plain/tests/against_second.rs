@@ -136,6 +136,39 @@ fn bundles() {
     }
 }
 
+/// Runs added to a lent element, which is sometimes a word too short or too long or has a wide word: the answers, and the element after them. What a
+/// run leaves is what its two parts leave, one after the other.
+#[test]
+fn running_totals() {
+    let mut random = Random(4);
+    let mut seen = [0; 10];
+    for _ in 0..4000 {
+        let (p, bytes) = bundle(&mut random);
+        let (a, b, holder) = (random.below(4), random.below(5), random.below(p.n + 1));
+        let length = if random.below(16) == 0 { p.d - 1 + 2 * random.below(2) } else { p.d };
+        let mut lent = random.words(p.k, length);
+        if random.below(8) == 0 {
+            let at = random.below(length);
+            lent[at] |= random.high_bit(p.k);
+        }
+        let mut running = [lent.clone(), lent.clone()];
+        let first = plain::add_total(&bytes, holder, a, b, &mut running[0]);
+        let other = second::add_total(&bytes, holder, a, b, &mut running[1]);
+        assert_eq!((first, &running[0]), (other, &running[1]), "{holder} {a} {b} {lent:?} {bytes:?}");
+        seen[first.map_or_else(|refusal| refusal as usize, |()| 0)] += 1;
+        match first {
+            Ok(()) => {
+                let middle = a + random.below(b - a + 1);
+                plain::add_total(&bytes, holder, a, middle, &mut lent).unwrap();
+                plain::add_total(&bytes, holder, middle, b, &mut lent).unwrap();
+                assert_eq!(lent, running[0]);
+            }
+            Err(_) => assert_eq!(lent, running[0]),
+        }
+    }
+    assert!([0, 1, 2, 3, 4, 7, 9].iter().all(|number| seen[*number] > 0), "{seen:?}");
+}
+
 #[test]
 fn mending() {
     let mut random = Random(3);

@@ -41,6 +41,14 @@ impl Bundle {
         Ok(file.jobs[run].iter().fold(ZERO, |sum, job| ring.add(&sum, &ring.element(&job.words))))
     }
 
+    /// The sum of a holder's file over a run, for an output of some length.
+    fn total(&self, holder: usize, a: usize, b: usize, length: usize) -> Result<Element, Refusal> {
+        let file = self.file(holder)?;
+        demand(length == self.params().d, Refusal::Length)?;
+        self.run(a, b)?;
+        self.sum(file, a..b)
+    }
+
     fn lengths(&self, out: &[u64], wrong: &[u64]) -> Result<(), Refusal> {
         demand(out.len() == self.params().d && wrong.len() == 1, Refusal::Length)
     }
@@ -88,11 +96,17 @@ pub fn open_place(bytes: &[u8], place: usize, out: &mut [u64], wrong: &mut [u64]
 }
 
 pub fn total(bytes: &[u8], holder: usize, a: usize, b: usize, out: &mut [u64]) -> Result<(), Refusal> {
+    let sum = read_bundle(bytes)?.total(holder, a, b, out.len())?;
+    out.copy_from_slice(&sum[..out.len()]);
+    Ok(())
+}
+
+/// Paper 02, K3: the lent element plus the total. A wide word in the element gives 3 too, also where the run is empty.
+pub fn add_total(bytes: &[u8], holder: usize, a: usize, b: usize, running: &mut [u64]) -> Result<(), Refusal> {
     let bundle = read_bundle(bytes)?;
-    let file = bundle.file(holder)?;
-    demand(out.len() == bundle.params().d, Refusal::Length)?;
-    bundle.run(a, b)?;
-    out.copy_from_slice(&bundle.sum(file, a..b)?[..out.len()]);
+    let (ring, sum) = (bundle.params().ring(), bundle.total(holder, a, b, running.len())?);
+    demand(ring.in_width(running), Refusal::WideWord)?;
+    running.copy_from_slice(&ring.add(&ring.element(running), &sum)[..running.len()]);
     Ok(())
 }
 

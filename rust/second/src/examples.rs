@@ -172,6 +172,38 @@ fn mending_declined_k2() {
     assert_eq!((report(&empty).as_str(), decline(&empty, 30)), ("", None));
 }
 
+/// Paper 02, K3, on the example: the lent element plus the total; a to b and then b to c leave what a to c would; what is declined, and the element
+/// is then as it was.
+#[test]
+fn running_totals_k3() {
+    let mut bundle = example_bundle();
+    let add = |bytes: &[u8], holder, a, b, lent: &[u64]| {
+        let mut running = lent.to_vec();
+        let answer = add_total(bytes, holder, a, b, &mut running);
+        assert!(answer.is_ok() || running == lent);
+        answer.map(|()| running).map_err(|refusal| refusal as u8)
+    };
+    for holder in 1..=3 {
+        for (a, b, c) in [(0, 0, 0), (0, 0, 1), (0, 1, 2), (0, 2, 2), (1, 1, 2), (2, 2, 2)] {
+            let (first, whole) = (add(&bundle, holder, a, b, &[7, 5]).unwrap(), add(&bundle, holder, a, c, &[7, 5]));
+            assert_eq!(add(&bundle, holder, b, c, &first), whole);
+            let mut out = [77; 2];
+            total(&bundle, holder, a, c, &mut out).unwrap();
+            assert_eq!(add(&bundle, holder, a, c, &[0, 0]), Ok(out.to_vec()));
+            assert_eq!(whole, Ok(vec![(out[0] + 7) % 8, (out[1] + 5) % 8]));
+        }
+    }
+    assert_eq!(add(&bundle, 1, 0, 2, &[7, 5]), Ok(vec![1, 1]));
+    assert_eq!([0, 4].map(|holder| add(&bundle, holder, 9, 8, &[8; 3])), [Err(4), Err(4)]);
+    assert_eq!([0, 1, 3].map(|n| add(&bundle, 1, 9, 8, &[8; 3][..n])), [Err(2), Err(2), Err(2)]);
+    assert_eq!([(2, 1), (0, 3), (3, 3)].map(|(a, b)| add(&bundle, 1, a, b, &[8; 2])), [Err(9), Err(9), Err(9)]);
+    assert_eq!([[8, 0], [0, 1 << 63]].map(|lent| add(&bundle, 1, 2, 2, &lent)), [Err(3), Err(3)]);
+    // the last word of holder 3's last job
+    bundle[255] = 1;
+    assert_eq!([(0, 1), (1, 2), (0, 2)].map(|(a, b)| add(&bundle, 3, a, b, &[7, 5]).err()), [None, Some(3), Some(3)]);
+    assert_eq!(add(&bundle[..255], 1, 0, 2, &[8; 3]), Err(7));
+}
+
 #[test]
 fn ranges_of_a_book() {
     let p = |n, t| Params { k: 64, d: 4, n, t }.check();

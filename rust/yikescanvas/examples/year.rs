@@ -107,6 +107,11 @@ fn main() -> Result<(), Refusal> {
     let mut share = [0; 4];
     total(&bundle, 1, 0, JOBS, &mut share)?;
     println!("lab 1's share of the totals: {share:?}");
+    let mut running = [0; 4];
+    for quarter in [0..91, 91..182, 182..273, 273..JOBS] {
+        add_total(&bundle, 1, quarter.start, quarter.end, &mut running)?;
+    }
+    println!("added quarter by quarter:    {running:?}");
 
     // what does not open says why
     println!("lab 3's file: {}", fetch_body(&bundle, 3, 0).unwrap_err());

@@ -43,6 +43,9 @@ extern "C" {
     pub fn yikes_total(
         bundle: *const u8, bundle_length: usize, holder: usize, a: usize, b: usize, out: *mut u64, out_length: usize,
     ) -> c_uchar;
+    pub fn yikes_add_total(
+        bundle: *const u8, bundle_length: usize, holder: usize, a: usize, b: usize, running: *mut u64, running_length: usize,
+    ) -> c_uchar;
     pub fn yikes_open_run(
         bundle: *const u8, bundle_length: usize, a: usize, b: usize,
         out: *mut u64, out_length: usize, wrong: *mut u64, wrong_length: usize,

@@ -362,6 +362,13 @@ pub fn total(bundle: &[u8], holder: usize, a: usize, b: usize, out: &mut [u64]) 
     told(unsafe { ffi::yikes_total(bundle.as_ptr(), bundle.len(), holder, a, b, out.as_mut_ptr(), out.len()) })
 }
 
+/// Adds the same total to `running`, an element of d words of k bits, where it stands: a sum over several runs or bundles needs no second array.
+/// The places a to b - 1 and then b to c - 1 leave what a to c - 1 would, and zero words become what [`total`] gives. A word of `running` of 2^k
+/// or more declines, also where the run is empty.
+pub fn add_total(bundle: &[u8], holder: usize, a: usize, b: usize, running: &mut [u64]) -> Result<(), Refusal> {
+    told(unsafe { ffi::yikes_add_total(bundle.as_ptr(), bundle.len(), holder, a, b, running.as_mut_ptr(), running.len()) })
+}
+
 /// Opens the sum of the jobs at the places a to b - 1, as [`open_place`] does one job. A word of 2^k or more in any file's share of one of them
 /// declines, also in a run of one place.
 pub fn open_run(bundle: &[u8], a: usize, b: usize, out: &mut [u64]) -> Result<u64, Refusal> {

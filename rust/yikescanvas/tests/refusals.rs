@@ -213,6 +213,7 @@ fn refuses(expected: Refusal, bytes: &[u8]) {
         declines(expected, n, |o| open_place(bytes, usize::MAX, o));
         declines(expected, n, |o| open_run(bytes, 9, 0, o));
         declines(expected, n, |o| total(bytes, 0, 9, 0, o));
+        declines(expected, n, |o| add_total(bytes, 0, 9, 0, o));
     }
     assert_eq!(fetch_body(bytes, 0, usize::MAX), Err(expected));
     assert_eq!(fetch_range(bytes, 1, 0), Err(expected));
@@ -375,6 +376,59 @@ fn bundles() {
     few[6] = 2;
     declines(Refusal::TooFewShares, 2, |o| open_place(&few, 0, o));
     declines(Refusal::TooFewShares, 2, |o| open_run(&few, 0, 0, o));
+}
+
+/// The lent words after a run of a holder's file is added to them; where that declines they are as they were.
+fn added(bytes: &[u8], holder: usize, a: usize, b: usize, lent: &[u64]) -> Result<Vec<u64>, Refusal> {
+    let mut running = lent.to_vec();
+    let answer = add_total(bytes, holder, a, b, &mut running);
+    assert!(answer.is_ok() || running == lent);
+    answer.map(|()| running)
+}
+
+/// Totals added to a lent element: the files have (5, 2) and (5, 2), (5, 2) and (1, 2), (1, 2) and (7, 2).
+#[test]
+fn running_totals() {
+    let bundle = bundle();
+    assert_eq!(added(&bundle, 1, 0, 2, &[7, 5]), Ok(vec![1, 1]));
+    // one run after another, and one file after another
+    let mut running = [7, 5];
+    for (holder, a, b, words) in [(1, 0, 1, [4, 7]), (1, 1, 1, [4, 7]), (1, 1, 2, [1, 1]), (2, 0, 2, [7, 5]), (3, 1, 2, [6, 7])] {
+        assert_eq!(add_total(&bundle, holder, a, b, &mut running), Ok(()));
+        assert_eq!(running, words);
+    }
+    for holder in 1..=3 {
+        for (a, b) in [(0, 0), (0, 1), (0, 2), (1, 1), (1, 2), (2, 2)] {
+            let mut out = [0; 2];
+            total(&bundle, holder, a, b, &mut out).unwrap();
+            assert_eq!(added(&bundle, holder, a, b, &[0, 0]), Ok(out.to_vec()));
+        }
+    }
+
+    // 4, 2, 9, 3, each where all that come after it hold too
+    for holder in [0, 4, usize::MAX] {
+        assert_eq!(added(&bundle, holder, 9, 8, &[8; 3]), Err(Refusal::Holder));
+    }
+    for n in [0, 1, 3, 4] {
+        assert_eq!(added(&bundle, 1, 9, 8, &vec![8; n]), Err(Refusal::Length));
+    }
+    for (a, b) in [(2, 1), (0, 3), (3, 3), (0, usize::MAX), (usize::MAX, usize::MAX)] {
+        assert_eq!(added(&bundle, 1, a, b, &[8, 8]), Err(Refusal::OutOfRange));
+    }
+    for lent in [[8, 5], [7, 8], [1 << 63, 0], [0, u64::MAX]] {
+        for (a, b) in [(0, 0), (0, 2), (2, 2)] {
+            assert_eq!(added(&bundle, 1, a, b, &lent), Err(Refusal::WideWord));
+        }
+    }
+    // a wide word in the first job of holder 3 and in the last word of holder 2's: it counts in the runs that have it
+    let mut wide = bundle;
+    (wide[217], wide[172]) = (128, 1);
+    for (holder, first, last) in [(1, true, true), (2, true, false), (3, false, true)] {
+        assert_eq!(added(&wide, holder, 0, 1, &[7, 5]).is_ok(), first);
+        assert_eq!(added(&wide, holder, 1, 2, &[7, 5]).is_ok(), last);
+        assert_eq!(added(&wide, holder, 0, 2, &[7, 5]).err(), if first && last { None } else { Some(Refusal::WideWord) });
+        assert_eq!(added(&wide, holder, 1, 1, &[7, 5]), Ok(vec![7, 5]));
+    }
 }
 
 fn mended(bytes: &[u8]) -> Vec<u8> {
