@@ -1,7 +1,7 @@
 -- The words of a job: d of them, as an element in an array of six (`padded`); words are in width exactly where all of them together, bit by bit,
 -- are (`six-width`). Assumes nothing.
 use mathlib.Core.Path.{_≡_, refl, sym, ap, ap₂, _∙_}
-use mathlib.Core.Bool.{Bool, true, false, _&&_}
+use mathlib.Core.Bool.{Bool, true, false, _&&_, and-assoc}
 use mathlib.Core.List.{List, [], _∷_, _++_}
 use Prim.Native.Nat.{ℕ, _+_, _-_, _≤_}
 use native.Mathlib.Nat.{le-of-eq}
@@ -31,14 +31,10 @@ words-length bs f p = words-count (wordSize (bundleHeading bs)) bs (paramsOf bs 
 pub padded : (d : ℕ) (e : Element) → length e ≡ d → e ++ drop d (replicate 6 0) ≡ held d e
 padded d e h = ap (λ (l : Element). l ++ drop d (replicate 6 0)) (sym (take-all d e (le-of-eq h)))
 
-and-assoc : (x y z : Bool) → (x && (y && z)) ≡ ((x && y) && z)
-and-assoc true y z = refl
-and-assoc false y z = refl
-
 pub width-append : (k : ℕ) (a b : Element) → allInWidth k (a ++ b) ≡ (allInWidth k a && allInWidth k b)
 unfolding allInWidth
 width-append k [] b = refl
-width-append k (x ∷ a) b = ap (λ (r : Bool). inWidth k x && r) (width-append k a b) ∙ and-assoc (inWidth k x) (allInWidth k a) (allInWidth k b)
+width-append k (x ∷ a) b = ap (λ (r : Bool). inWidth k x && r) (width-append k a b) ∙ sym (and-assoc (inWidth k x) (allInWidth k a) (allInWidth k b))
 
 -- the zeros are in width
 pub padded-width : (k d : ℕ) (e : Element) → d ≤ 6 → allInWidth k (e ++ drop d (replicate 6 0)) ≡ allInWidth k e
@@ -91,4 +87,5 @@ lanes k e o v u =
 -- the two of them after one another
 pub in-turn : (k x v u : ℕ) → inWidth k (bitOr x (bitOr v u)) ≡ inWidth k (bitOr (bitOr x v) u)
 in-turn k x v u =
-    rw (or-width k x (bitOr v u), or-width k v u, or-width k (bitOr x v) u, or-width k x v) (and-assoc (inWidth k x) (inWidth k v) (inWidth k u))
+    rw (or-width k x (bitOr v u), or-width k v u, or-width k (bitOr x v) u, or-width k x v)
+    (sym (and-assoc (inWidth k x) (inWidth k v) (inWidth k u)))
