@@ -126,7 +126,7 @@ pub fn fetch_part(bytes: &[u8], holder: usize, place: usize, part: &mut [u64]) -
 }
 
 // The d words of 8 bytes each from a position.
-pub fn load_words(bytes: &[u8], at: usize, d: usize) -> [u64; 6]
+fn load_words(bytes: &[u8], at: usize, d: usize) -> [u64; 6]
     requires { ⌜ (d ≤ 6) × (at + 8 * d ≤ length (now bytes)) ⌝ }
     ensures { λ r. ⌜ r ≡ wordsFrom 8 (now (bytes .entry)) d at ++ drop d (replicate 6 0) ⌝ }
 {

@@ -1,7 +1,6 @@
 -- Sums of elements. A sum has d words, in width (`sum-length`, `sum-width`). A sum over m + n places is that over m and that over the next n
 -- (`sum-split`). Its word j is the sum of the elements' words j modulo 2^k (`sum-word`), and read as signed it is the sum of their signed readings
--- where that is in range (`sum-signed`). A sum in words of more bits, cut to k bits at the end, is the sum in words of k bits (`sum-cut`).
--- Assumes nothing.
+-- where that is in range (`sum-signed`). Assumes nothing.
 use mathlib.Core.Path.{_≡_, refl, sym, ap, ap₂, _∙_}
 use mathlib.Core.Bool.{true}
 use mathlib.Core.List.{[], _∷_}
@@ -21,7 +20,7 @@ use Rattle.words.proofs.Width.{lt-in-width}
 use Rattle.words.proofs.Reading.{signed-sum}
 use Rattle.galois.specs.Element.{Element, zip, sum, zeroE, reduce}
 use Rattle.galois.proofs.Lists.{length-zip, reduce-width}
-use Rattle.galois.proofs.Narrow.{reduce-sum, reduce-left, reduce-zeros, sum-comm}
+use Rattle.galois.proofs.Narrow.{sum-comm}
 use Rattle.totals.specs.Values.{valuesFrom}
 use Rattle.totals.specs.Total.{sumTo, wordsNo}
 
@@ -146,13 +145,3 @@ module _ (k d : ℕ) (s : ℕ → Element) where
       negℤ (pos (2 ^ (k - 1))) ≤ℤ sumOfMeanings k (wordsNo j s n) → sumOfMeanings k (wordsNo j s n) ≤ℤ pos (2 ^ (k - 1) - 1) →
       meaning k (getD (sumTo k d s n) j 0) ≡ sumOfMeanings k (wordsNo j s n)
   sum-signed j n p l h u v = ap (meaning k) (sum-word j n l h) ∙ signed-sum k (wordsNo j s n) p u v
-
--- ---- sums in more bits
-
-pub sum-cut : {j k : ℕ} → j ≤ k → (d : ℕ) (s : ℕ → Element) (n : ℕ) → reduce j (sumTo k d s n) ≡ sumTo j d s n
-unfolding sumTo
-sum-cut {j} {k} h d s zero = reduce-zeros j d
-sum-cut {j} {k} h d s (suc n) =
-    reduce-sum h (sumTo k d s n) (s n)
-    ∙ sym (reduce-left j (sumTo k d s n) (s n))
-    ∙ ap (λ (x : Element). sum j x (s n)) (sum-cut h d s n)
