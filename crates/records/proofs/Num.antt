@@ -1,11 +1,11 @@
 -- Laws of little-endian numbers and of parts of a list of bytes. Assumes nothing.
-use mathlib.Core.Path.{_≡_, refl, ap, ap₂}
+use mathlib.Core.Path.{_≡_, refl, sym, ap, ap₂}
 use Prim.Native.Nat.{ℕ, zero, suc, _+_, _-_, _*_, _/_, _%_, _^_, _≤_, _<_}
 use native.Mathlib.Nat.{one-le-pow, pow-suc, not-suc-le-zero}
 use native.Mathlib.Omega.{arith}
 use native.Mathlib.Decide.{decLe}
 use mathlib.Core.List.{List, [], _∷_, _++_}
-use lib.ListN.{length, getD, drop, length-take, length-drop, drop-of-length-le, List·getD-eq-default}
+use lib.ListN.{length, getD, take, drop, length-take, length-drop, drop-of-length-le, List·getD-eq-default}
 use lib.Seq.{getD-take, getD-drop, take-add, drop-drop, drop-cons, take-length}
 use lib.Dec.{lit<}
 use Rattle.records.specs.Num.{Bytes, part, leNum, leAt, leBytes}
@@ -107,6 +107,11 @@ leNum-append (x ∷ l) m = rw (leNum-append l m, pow-suc) (omega arith)
 pub leAt-split : (bs : List ℕ) (a m n : ℕ) → a + m ≤ length bs → leAt (m + n) bs a ≡ leAt m bs a + 256 ^ m * leAt n bs (a + m)
 unfolding leAt
 leAt-split bs a m n h = rw (part-split bs a m n, leNum-append (part a m bs) (part (a + m) n bs), part-length bs a m h)
+
+-- the first number in the bytes from a position on
+pub leAt-from : (w : ℕ) (bs : List ℕ) (a : ℕ) → leAt w (take (length bs - a) (drop a bs)) 0 ≡ leAt w bs a
+unfolding leAt part
+leAt-from w bs a = rw (sym (length-drop a bs), take-length)
 
 -- the number in one byte, in two and in four, as a sum over the bytes
 leAt-one : (bs : List ℕ) (a : ℕ) → a + 1 ≤ length bs → leAt 1 bs a ≡ getD bs a 0

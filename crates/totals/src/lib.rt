@@ -7,6 +7,7 @@ ghost use lib.Bits.{bitOr};
 ghost use lib.ListN.{length, take, drop};
 ghost use Rattle.words.specs.Word.{inWidth, allInWidth};
 ghost use Rattle.galois.specs.Element.{sum, difference, zeroE, reduce};
+ghost use Rattle.records.specs.Num.{leAt};
 ghost use Rattle.bundle.specs.Bundle.{bundleFault, bundleHeading, filesOf};
 ghost use Rattle.bundle.specs.Contents.{wordsFrom};
 ghost use Rattle.fetch.specs.Fetch.{fileOf};
@@ -14,7 +15,15 @@ ghost use Rattle.totals.specs.Values.{every};
 ghost use Rattle.totals.specs.Total.{sumTo, runTotal, runInWidth, askedFault, totalFault, totalWords, addedTo, addTotalFault, addTotalWords};
 use records::Heading;
 
-// Words taken together, bit by bit: those at even places of their jobs, and those at odd ones.
+// The word at a position, read from the bytes that begin there: only so does the compiler see one load before it looks for words to add together.
+fn load_word(bytes: &[u8], at: usize) -> u64
+    requires { ⌜ at + 8 ≤ length (now bytes) ⌝ }
+    ensures { λ r. ⌜ r ≡ leAt 8 (now (bytes .entry)) at ⌝ }
+{
+    records::word_at(&bytes[at..], 0)
+}
+
+// Words taken together, bit by bit: those at even places of their jobs, and those at odd ones, the last word in both where it is alone.
 struct Seen {
     even: u64,
     odd: u64,
@@ -22,7 +31,7 @@ struct Seen {
 
 // Adds the d words of 8 bytes each from a position to the first d of the lent words, in 64 bits; the words read, together. For all that the compiler
 // knows the two lists could overlap, and it may not read past a store: so two words are read before either is stored, and seen apart, which lets it
-// add the two by one instruction.
+// add the two by one instruction. The last of an odd number is seen with both, so that neither is taken out of the pair for it.
 fn add_words(bytes: &[u8], at: usize, d: usize, running: &mut [u64]) -> Seen
     requires { ⌜ (at + 8 * d ≤ length (now bytes)) × (d ≤ length (now running)) ⌝ }
     ensures { λ r. ⌜ ((k : ℕ) → inWidth k (bitOr (r .even) (r .odd)) ≡ allInWidth k (wordsFrom 8 (now (bytes .entry)) d at))
@@ -33,8 +42,8 @@ fn add_words(bytes: &[u8], at: usize, d: usize, running: &mut [u64]) -> Seen
     let mut here = at;
     let mut j: usize = 0;
     while j + 1 < d {
-        let v = records::word_at(bytes, here);
-        let w = records::word_at(bytes, here + records::WORD_SIZE);
+        let v = load_word(bytes, here);
+        let w = load_word(bytes, here + records::WORD_SIZE);
         running[j] = words::add(64, running[j], v);
         running[j + 1] = words::add(64, running[j + 1], w);
         even = even | v;
@@ -43,11 +52,11 @@ fn add_words(bytes: &[u8], at: usize, d: usize, running: &mut [u64]) -> Seen
         j += 2;
     }
     if j < d {
-        let w = records::word_at(bytes, here);
+        let w = load_word(bytes, here);
         running[j] = words::add(64, running[j], w);
         return Seen {
             even: even | w,
-            odd,
+            odd: odd | w,
         };
     }
     Seen { even, odd }

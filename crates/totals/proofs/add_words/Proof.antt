@@ -7,7 +7,7 @@ use mathlib.Core.List.{List}
 use Prim.Native.Nat.{ℕ, _+_, _-_, _*_, _≤_, _<_}
 use native.Mathlib.Nat.{zero-add, le-of-eq}
 use lib.ListN.{length, getD, set, drop, length-set}
-use lib.Bits.{bitOr, or-zero-r}
+use lib.Bits.{bitOr, or-self}
 use lib.Seq.{paste}
 use denote.Ref.{now}
 use Rattle.words.specs.Word.{addW, inWidth, allInWidth}
@@ -89,12 +89,12 @@ loop-again c =
     let s = t .before .before .before .before .before .before in
     let e = l .even in
     let o = l .odd in
-    let v = t .before .word-at .result in
-    let u = t .word-at2 .result in
+    let v = t .before .load-word .result in
+    let u = t .load-word2 .result in
     let two : l .j + 1 + 1 ≡ l .j + 2 = omega arith in
-    let p = next s (l .running) (bitOr e o) (l .j) _ v _ (l .inv .2) (omega arith) (l .inv .1) (t .before .word-at .ensures)
+    let p = next s (l .running) (bitOr e o) (l .j) _ v _ (l .inv .2) (omega arith) (l .inv .1) (t .before .load-word .ensures)
     (c .before .before .add .ensures) in
-    let q = next s _ _ (l .j + 1) _ u _ p (omega arith) (omega (arith, l .inv .1)) (t .word-at2 .ensures) (c .add2 .ensures) in (
+    let q = next s _ _ (l .j + 1) _ u _ p (omega arith) (omega (arith, l .inv .1)) (t .load-word2 .ensures) (c .add2 .ensures) in (
       omega arith,
       omega arith,
       rw two at (turned s _ (bitOr (bitOr e v) (bitOr o u)) _ (l .j + 1 + 1) (λ k. lanes k e o v u ∙ in-turn k (bitOr e o) v u) q),
@@ -109,10 +109,10 @@ returns c =
     let s = t .before .before .before .before .before .before in
     let e = l .even in
     let o = l .odd in
-    let v = t .word-at3 .result in
-    let p = next s (l .running) (bitOr e o) (l .j) _ v _ (l .inv .2) (omega arith) (l .inv .1) (t .word-at3 .ensures) (c .add3 .ensures) in
-    done s _ (bitOr (bitOr e v) o) (l .j + 1)
-    (turned s _ (bitOr (bitOr e v) o) _ (l .j + 1) (λ k. rw (or-zero-r o, or-zero-r v) at (lanes k e o v 0)) p) (omega arith)
+    let v = t .load-word3 .result in
+    let p = next s (l .running) (bitOr e o) (l .j) _ v _ (l .inv .2) (omega arith) (l .inv .1) (t .load-word3 .ensures) (c .add3 .ensures) in
+    let x = bitOr (bitOr e v) (bitOr o v) in
+    done s _ x (l .j + 1) (turned s _ x _ (l .j + 1) (λ k. rw (or-self v) at (lanes k e o v v)) p) (omega arith)
 
 returns-2 : tie.Need-returns-2 Inv-loop μ-loop
 returns-2 c =
