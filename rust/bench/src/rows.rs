@@ -52,6 +52,10 @@ impl Row {
     pub fn work(&self) -> Work {
         (self.make)(&mut Random::new(1), self.book)
     }
+
+    fn adds(&self) -> bool {
+        matches!(self.name, "total of 1,000 jobs" | "total of 1,000 jobs added in place" | "open a run")
+    }
 }
 
 /// Parameters and the allowance.
@@ -65,6 +69,13 @@ const BOOKS: [Book; 3] = [
     Book { p: Params { k: 64, d: 4, n: 15, t: 4 }, e: 5 },
     Book { p: Params { k: 16, d: 4, n: 15, t: 7 }, e: 2 },
     Book { p: Params { k: 64, d: 6, n: 63, t: 20 }, e: 21 },
+];
+
+/// What adds has code for each d: books of the d that those above do not have, for the rows that `adds` tells.
+const OTHERS: [Book; 3] = [
+    Book { p: Params { k: 64, d: 2, n: 3, t: 0 }, e: 1 },
+    Book { p: Params { k: 64, d: 3, n: 7, t: 2 }, e: 2 },
+    Book { p: Params { k: 64, d: 5, n: 31, t: 10 }, e: 10 },
 ];
 
 /// Different inputs of a row that opens or deals; jobs in a bundle whose places are opened, and in one that is accepted or added up; the most jobs of
@@ -115,7 +126,8 @@ const ROWS: [(&str, usize, Make); 17] = [
 ];
 
 pub fn all() -> Vec<Row> {
-    BOOKS.into_iter().flat_map(of_book).collect()
+    let others = OTHERS.into_iter().flat_map(of_book).filter(Row::adds);
+    BOOKS.into_iter().flat_map(of_book).chain(others).collect()
 }
 
 /// The rows of a book. No word of 64 bits is wide, so that a row with wide words has 63.
