@@ -5,7 +5,7 @@ use mathlib.Core.Bool.{true, false}
 use mathlib.Core.List.{List, [], _∷_, _++_}
 use Prim.Native.Nat.{ℕ, zero, suc, _+_, _≤_, _<_}
 use native.Mathlib.Omega.{arith}
-use lib.ListN.{length, take, drop, getD, List·getD-append}
+use lib.ListN.{length, take, drop, getD, replicate, List·getD-append}
 use lib.Seq.{length-front, length-take-le}
 use Rattle.words.specs.Params.{paramsOk}
 use Rattle.words.specs.Refusal.{WIDE-WORD}
@@ -28,7 +28,7 @@ use Rattle.totals.specs.Values.{valuesFrom}
 use Rattle.totals.proofs.Values.{values-count, value-at, values-same, every-each}
 use Rattle.totals.proofs.Words.{words-length}
 use Rattle.archive.specs.Archive.{shareBy, sharesBy, sharesOver, filesInWidth, runOpening}
-use Rattle.archive.specs.Loaded.{sharesIn, openingOf, placeInWidth}
+use Rattle.archive.specs.Loaded.{holdersIn, sharesIn, openingOf, placeInWidth}
 use Rattle.archive.proofs.Shares.{values-all, shares-ordered, shares-width}
 
 front : {A : Type 0} (f : ℕ → A) (n : ℕ) (rest : List A) (z : A) (i : ℕ) → i < n → getD (valuesFrom f 0 n ++ rest) i z ≡ f i
@@ -42,16 +42,17 @@ module _ (bs : List ℕ) (h : Heading) (e : h ≡ bundleHeading bs) (n : ℕ) (f
   d-is : d ≡ paramsOf bs .d
   d-is = ap (λ (x : Heading). x .params .d) e
 
-  pub arrays : (hs hr : List ℕ) (ys : Rows) → hs ≡ valuesFrom (holderOf bs) 0 n ++ hr → sharesOf d n hs ys ≡ sharesIn bs ys
+  pub arrays : (hs : List ℕ) (ys : Rows) → hs ≡ holdersIn bs → sharesOf d n hs ys ≡ sharesIn bs ys
   unfolding sharesFrom valuesFrom
-  arrays hs hr ys holders = from n 0 (omega arith) ∙ ap (valuesFrom (shareBy bs words) 0) files
+  arrays hs ys holders = from n 0 (omega arith) ∙ ap (valuesFrom (shareBy bs words) 0) files
     where
       words : ℕ → Element
       words f = take (paramsOf bs .d) (getD ys f [])
 
       one : (i : ℕ) → i < n → shareAt d hs ys i ≡ shareBy bs words i
       one i l =
-          let p : getD hs i 0 ≡ holderOf bs i = ap (λ (x : List ℕ). getD x i 0) holders ∙ front (holderOf bs) n hr 0 i l in
+          let p : getD hs i 0 ≡ holderOf bs i =
+          ap (λ (x : List ℕ). getD x i 0) holders ∙ front (holderOf bs) (filesOf bs) (drop (filesOf bs) (replicate 63 0)) 0 i (omega (arith, files)) in
           let q : take d (getD ys i []) ≡ words i = ap (λ (x : ℕ). take x (getD ys i [])) d-is in
           λ j. record { holder = p j; words = q j }
 
@@ -80,7 +81,7 @@ module _ (bs : List ℕ) (h : Heading) (e : h ≡ bundleHeading bs) (n : ℕ) (f
 
     pub loaded-width : ((f : ℕ) → f < filesOf bs → IsElement (paramsOf bs .k) (paramsOf bs .d) (w f)) →
         InWidth (h .params .k) (h .params .d) (sharesIn bs ys)
-    loaded-width x = rw (loaded, e) (shares-width bs w x)
+    loaded-width x = rw (loaded, e) (shares-width (paramsOf bs .k) bs w x)
 
   pub loaded-length : {A : Type 0} (f : ℕ → A) (ys old : List A) → bundleFault bs ≡ 0 → length old ≡ 63 → ys ≡ valuesFrom f 0 n ++ drop n old →
       length ys ≡ 63

@@ -1,6 +1,6 @@
 -- The shares present in an accepted bundle: one for each file, under holders that rise from 1 to n; and words in width where none is wide.
 -- Assumes nothing.
-use mathlib.Core.Path.{_≡_, ap}
+use mathlib.Core.Path.{_≡_, refl, ap}
 use mathlib.Core.Bool.{true}
 use mathlib.Core.List.{List, List·Memᴰ, List·Memᴰ·head, List·Memᴰ·tail, List·Memᴰ·not-nil, List·Memᴰ·cases-cons}
 use mathlib.Core.Logic.{_⊎_, inl, inr}
@@ -8,25 +8,31 @@ use Prim.Native.Nat.{ℕ, zero, suc, _+_, _≤_, _<_}
 use native.Mathlib.Decide.{ℕ-discrete}
 use native.Mathlib.Omega.{arith}
 use lib.ListN.{length}
-use Rattle.words.specs.Word.{allInWidth}
+use Rattle.words.specs.Word.{inWidth, allInWidth}
+use Rattle.words.proofs.Tests.{and-both}
+use Rattle.words.proofs.Width.{lt-in-width}
 use Rattle.algebra.specs.Shares.{All}
 use Rattle.algebra.proofs.Shares.{all-map}
 use Rattle.galois.specs.Element.{Element}
 use Rattle.codewords.specs.Codeword.{Share}
 use Rattle.codewords.specs.WellFormed.{IsElement, InWidth, Rising, Holders}
+use Rattle.codewords.proofs.Positions.{width-up}
 use Rattle.codewords.proofs.Without.{rising-different}
 use Rattle.decoder.specs.Decoded.{Ordered}
-use Rattle.records.specs.Layout.{orderSize}
+use Rattle.records.specs.Layout.{orderSize, wordSize, wordsAt}
+use Rattle.records.specs.Num.{Bytes, leAt}
 use Rattle.records.specs.Record.{headingOf}
-use Rattle.bundle.specs.Bundle.{bundleFault, paramsOf, filesOf, fileAt, holderOf}
-use Rattle.bundle.specs.Contents.{wordsOf}
+use Rattle.records.proofs.Num.{leAt-lt}
+use Rattle.bundle.specs.Bundle.{bundleFault, paramsOf, filesOf, fileAt, jobAt, holderOf}
+use Rattle.bundle.specs.Contents.{wordsFrom, wordsOf}
 use Rattle.bundle.proofs.Bundles.{bundle-ok, bundle-ranges, file-at, same-at, holders-rise}
-use Rattle.archive.specs.Archive.{shareBy, sharesBy, filesInWidth}
+use Rattle.archive.specs.Archive.{shareBy, sharesBy, sharesAt, sharesOver, filesInWidth}
 use Rattle.totals.specs.Total.{runTotal, runInWidth}
 use Rattle.totals.specs.Values.{valuesFrom}
 use Rattle.totals.proofs.Runs.{total-length}
 use Rattle.totals.proofs.Sums.{sum-width}
 use Rattle.totals.proofs.Values.{values-count, every-all}
+use Rattle.totals.proofs.Words.{words-length}
 
 -- what holds of each value holds of each in the list
 pub values-all : {A : Type 0} (P : A → Type 0) (f : ℕ → A) (i n : ℕ) → ((j : ℕ) → i ≤ j → j < i + n → P (f j)) → All P (valuesFrom f i n)
@@ -91,10 +97,21 @@ module _ (bs : List ℕ) (z : bundleFault bs ≡ 0) where
         )
 
 -- words in width
-pub shares-width : (bs : List ℕ) (w : ℕ → Element) → ((f : ℕ) → f < filesOf bs → IsElement (paramsOf bs .k) (paramsOf bs .d) (w f)) →
-    InWidth (paramsOf bs .k) (paramsOf bs .d) (sharesBy bs w)
-shares-width bs w h =
-    values-all (λ (s : Share). IsElement (paramsOf bs .k) (paramsOf bs .d) (s .words)) (shareBy bs w) 0 (filesOf bs) (λ j l u. h j (omega arith))
+pub shares-width : (k : ℕ) (bs : List ℕ) (w : ℕ → Element) → ((f : ℕ) → f < filesOf bs → IsElement k (paramsOf bs .d) (w f)) →
+    InWidth k (paramsOf bs .d) (sharesBy bs w)
+shares-width k bs w h =
+    values-all (λ (s : Share). IsElement k (paramsOf bs .d) (s .words)) (shareBy bs w) 0 (filesOf bs) (λ j l u. h j (omega arith))
+
+-- words are numbers of eight bytes, and so of 64 bits
+words-stored : (bs : List ℕ) (n at : ℕ) → Bytes bs → allInWidth 64 (wordsFrom 8 bs n at) ≡ true
+unfolding wordsFrom allInWidth
+words-stored bs zero at b = refl
+words-stored bs (suc n) at b = and-both (inWidth 64 (leAt 8 bs at)) _ (lt-in-width 64 (leAt 8 bs at) (leAt-lt 8 bs at b)) (words-stored bs n (at + 8) b)
+
+pub place-stored : (bs : List ℕ) (p : ℕ) → Bytes bs → InWidth 64 (paramsOf bs .d) (sharesAt bs p)
+unfolding wordsOf wordSize
+place-stored bs p b =
+    shares-width 64 bs (λ f. wordsOf bs f p) (λ f l. (words-length bs f p, words-stored bs (paramsOf bs .d) (wordsAt (jobAt bs f p)) b))
 
 -- a run whose words are in width, in each file
 pub of-width : (bs : List ℕ) (a n : ℕ) → ((f i : ℕ) → f < filesOf bs → i < n → allInWidth (paramsOf bs .k) (wordsOf bs f (a + i)) ≡ true) →
@@ -106,3 +123,9 @@ of-width bs a n h =
 -- a total is an element, whatever the words are
 pub total-element : (bs : List ℕ) (f a n : ℕ) → IsElement (paramsOf bs .k) (paramsOf bs .d) (runTotal bs f a n)
 total-element bs f a n = (total-length bs f a n, sum-width (paramsOf bs .k) (paramsOf bs .d) (λ i. wordsOf bs f (a + i)) n)
+
+pub run-stored : (bs : List ℕ) → bundleFault bs ≡ 0 → (a n : ℕ) → InWidth 64 (paramsOf bs .d) (sharesOver bs a n)
+run-stored bs z a n =
+    let h = bundle-ranges bs (bundle-ok bs z) .book .k-high in
+    shares-width 64 bs (λ f. runTotal bs f a n)
+    (λ f l. let e = total-element bs f a n in (e .0, width-up (paramsOf bs .k) 64 h (runTotal bs f a n) (e .1)))

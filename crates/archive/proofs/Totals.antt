@@ -16,14 +16,14 @@ use lib.Signed.{_≤ℤ_}
 use Rattle.words.specs.Signed.{meaning, sumOfMeanings}
 use Rattle.words.specs.Word.{allInWidth}
 use Rattle.words.proofs.InRange.{InRange}
+use borrow.Author.Tests.{not-true}
 use Rattle.words.proofs.Tests.{not-held}
 use Rattle.algebra.specs.Shares.{All, bit, count}
-use Rattle.galois.specs.Element.{Element, sum, zeroE, point, same}
-use Rattle.galois.proofs.Elements.{same-eq}
+use Rattle.galois.specs.Element.{Element, sum, zeroE, point}
 use Rattle.codewords.specs.Codeword.{Share, Polynomial, value, when, differs, errors, errorSet}
 use Rattle.codewords.specs.Demand.{Decides, bitFor}
 use Rattle.codewords.specs.Linear.{sums}
-use Rattle.codewords.specs.Opening.{Opening, opens, secretInto, wrongInto}
+use Rattle.codewords.specs.Opening.{Opening, opens, secretInto, wrongInto, lowestRoom}
 use Rattle.codewords.specs.WellFormed.{IsPoly}
 use Rattle.codewords.proofs.ErrorSet.{bit-right}
 use Rattle.codewords.proofs.Linear.{sums-is-poly, dealt-sum, sums-free}
@@ -122,8 +122,9 @@ module _ (bs : List ℕ) (z : bundleFault bs ≡ 0) (q : ℕ → Polynomial) (a 
     dealt-words : (i : ℕ) → i < n → wordsOf bs f (a + i) ≡ value (paramsOf bs .k) (paramsOf bs .d) (q i) (point (paramsOf bs .d) (holderOf bs f))
     unfolding holdsDealt
     dealt-words i l =
-        let v : ℕ → Element = λ j. value (paramsOf bs .k) (paramsOf bs .d) (q j) (point (paramsOf bs .d) (holderOf bs f)) in
-        same-eq (wordsOf bs f (a + i)) (v i) (every-each (λ j. same (wordsOf bs f (a + j)) (v j)) n i holds l)
+        let s : ℕ → Share = λ j. shareBy bs (λ g. wordsOf bs g (a + j)) f in
+        right-value (paramsOf bs .k) (paramsOf bs .d) (q i) (s i)
+        (not-true _ (every-each (λ j. not (differs (paramsOf bs .k) (paramsOf bs .d) (q j) (s j))) n i holds l))
 
     -- the total of a file that holds what was dealt is its holder's share of the sum
     dealt-total : runTotal bs f a n ≡ value (paramsOf bs .k) (paramsOf bs .d) (sumPoly bs q n) (point (paramsOf bs .d) (holderOf bs f))
@@ -143,16 +144,16 @@ module _ (bs : List ℕ) (z : bundleFault bs ≡ 0) (q : ℕ → Polynomial) (a 
         (shareBy bs (λ g. []) f) .1
 
 -- up to e files hold something else somewhere in the run
-pub changed-run-opens : (bs : List ℕ) (q : ℕ → Polynomial) (a b n w : ℕ) → Polys bs q (b - a) → RunClear bs a b n w → Enough bs →
+pub changed-run-opens : (bs : List ℕ) (q : ℕ → Polynomial) (a b n w lo : ℕ) → Polys bs q (b - a) → RunClear bs a b n w lo → Enough bs →
     changedFiles bs q a (b - a) ≤ allowanceOf bs →
-    RunOpensTo bs a b n w (sumPoly bs q (b - a)) (sumOfJobs bs q (b - a)) (named bs a (b - a) (sumPoly bs q (b - a)))
-changed-run-opens bs q a b n w polys c m h =
+    RunOpensTo bs a b n w lo (sumPoly bs q (b - a)) (sumOfJobs bs q (b - a)) (named bs a (b - a) (sumPoly bs q (b - a)))
+changed-run-opens bs q a b n w lo polys c m h =
     let k = paramsOf bs .k in
     let d = paramsOf bs .d in
     let t = paramsOf bs .t in
     let p = sumPoly bs q (b - a) in
-    opens-to bs (sharesOver bs a (b - a)) (openRun bs a b n w) p (sumOfJobs bs q (b - a)) (named bs a (b - a) p)
-    (run-decides bs a b n w c m .finds p
+    opens-to bs (sharesOver bs a (b - a)) (openRun bs a b n w lo) p (sumOfJobs bs q (b - a)) (named bs a (b - a) p)
+    (run-decides bs a b n w lo c m .finds p
     (record {
       poly = sums-poly k d t q (b - a) polys;
       near =
@@ -162,35 +163,36 @@ changed-run-opens bs q a b n w polys c m h =
     (free-sums k d t q (b - a) polys) refl
 
 -- all files hold what was dealt
-pub run-opens : (bs : List ℕ) (q : ℕ → Polynomial) (a b n w : ℕ) → Polys bs q (b - a) → bundleFault bs ≡ 0 → n ≡ paramsOf bs .d → w ≡ 1 → a ≤ b →
+pub run-opens : (bs : List ℕ) (q : ℕ → Polynomial) (a b n w lo : ℕ) → Polys bs q (b - a) → bundleFault bs ≡ 0 → n ≡ paramsOf bs .d → w ≡ 1 → lo ≡ lowestRoom → a ≤ b →
     b ≤ bundleHeading bs .jobs → Enough bs → ((f : ℕ) → f < filesOf bs → holdsDealt bs q a (b - a) f ≡ true) →
-    RunOpensTo bs a b n w (sumPoly bs q (b - a)) (sumOfJobs bs q (b - a)) 0
-run-opens bs q a b n w polys z o x l u m h =
+    RunOpensTo bs a b n w lo (sumPoly bs q (b - a)) (sumOfJobs bs q (b - a)) 0
+run-opens bs q a b n w lo polys z o x y l u m h =
     let k = paramsOf bs .k in
     let d = paramsOf bs .d in
     let t = paramsOf bs .t in
-    let c : RunClear bs a b n w =
+    let c : RunClear bs a b n w lo =
     record {
       no-fault = z;
       output = o;
       wrong-output = x;
+      lowest-output = y;
       low = l;
       high = u;
       width = of-width bs a (b - a) (λ f i v. dealt-width bs z q a (b - a) polys f (h f v) i);
     } in
-    all-right bs (λ f. runTotal bs f a (b - a)) (sumPoly bs q (b - a)) (openRun bs a b n w) (run-decides bs a b n w c m)
+    all-right bs (λ f. runTotal bs f a (b - a)) (sumPoly bs q (b - a)) (openRun bs a b n w lo) (run-decides bs a b n w lo c m)
     (sums-poly k d t q (b - a) polys) (sumOfJobs bs q (b - a)) (free-sums k d t q (b - a) polys)
     (λ f v. dealt-total bs z q a (b - a) polys f (h f v))
 
 -- jobs that the call of dealing would deal
-pub dealt-run-opens : (bs : List ℕ) (secret coefficients : ℕ → List ℕ) (a b n w : ℕ) →
+pub dealt-run-opens : (bs : List ℕ) (secret coefficients : ℕ → List ℕ) (a b n w lo : ℕ) →
     let q : ℕ → Polynomial = λ i. dealing (paramsOf bs) (secret i) (coefficients i) in
-    ((i : ℕ) → i < b - a → Dealable (paramsOf bs) (secret i) (coefficients i)) → bundleFault bs ≡ 0 → n ≡ paramsOf bs .d → w ≡ 1 → a ≤ b →
+    ((i : ℕ) → i < b - a → Dealable (paramsOf bs) (secret i) (coefficients i)) → bundleFault bs ≡ 0 → n ≡ paramsOf bs .d → w ≡ 1 → lo ≡ lowestRoom → a ≤ b →
     b ≤ bundleHeading bs .jobs → Enough bs → ((f : ℕ) → f < filesOf bs → holdsDealt bs q a (b - a) f ≡ true) →
-    RunOpensTo bs a b n w (sumPoly bs q (b - a)) (sumTo (paramsOf bs .k) (paramsOf bs .d) secret (b - a)) 0
+    RunOpensTo bs a b n w lo (sumPoly bs q (b - a)) (sumTo (paramsOf bs .k) (paramsOf bs .d) secret (b - a)) 0
 unfolding dealing
-dealt-run-opens bs secret coefficients a b n w dealable =
-    run-opens bs (λ i. dealing (paramsOf bs) (secret i) (coefficients i)) a b n w
+dealt-run-opens bs secret coefficients a b n w lo dealable =
+    run-opens bs (λ i. dealing (paramsOf bs) (secret i) (coefficients i)) a b n w lo
     (λ i l. (let g = dealable i l in dealing-poly (paramsOf bs) (secret i) (coefficients i) (g .n) (g .no-fault)))
 
 -- "A total read so equals the sum of the jobs' signed values when that sum lies from −2^(k−1) to 2^(k−1) − 1": word j of the sum of the jobs
@@ -205,13 +207,13 @@ jobs-signed bs q n j z polys l =
 -- ---- one dealt job, at a place
 
 -- up to e files hold something else there, whatever it is: a wide word too
-pub place-opens-changed : (bs : List ℕ) (q : Polynomial) (p n w : ℕ) → IsPoly (paramsOf bs .k) (paramsOf bs .d) (paramsOf bs .t) q →
-    PlaceClear bs p n w → Enough bs → changedFiles bs (λ i. q) p 1 ≤ allowanceOf bs →
-    PlaceOpensTo bs p n w q (getD q 0 []) (errorSet (paramsOf bs .k) (paramsOf bs .d) q (sharesAt bs p))
-place-opens-changed bs q p n w poly c m h =
+pub place-opens-changed : (bs : List ℕ) (q : Polynomial) (p n w lo : ℕ) → IsPoly (paramsOf bs .k) (paramsOf bs .d) (paramsOf bs .t) q →
+    PlaceClear bs p n w lo → Enough bs → changedFiles bs (λ i. q) p 1 ≤ allowanceOf bs →
+    PlaceOpensTo bs p n w lo q (getD q 0 []) (errorSet (paramsOf bs .k) (paramsOf bs .d) q (sharesAt bs p))
+place-opens-changed bs q p n w lo poly c m h =
     let e : p + 0 ≡ p = omega arith in
-    opens-to bs (sharesAt bs p) (openPlace bs p n w) q (getD q 0 []) _
-    (place-decides bs p n w c m .finds q
+    opens-to bs (sharesAt bs p) (openPlace bs p n w lo) q (getD q 0 []) _
+    (place-decides bs p n w lo c m .finds q
     (record {
       poly = poly;
       near =
@@ -222,33 +224,34 @@ place-opens-changed bs q p n w poly c m h =
     refl refl
 
 -- all files hold what was dealt
-pub place-opens-dealt : (bs : List ℕ) (q : Polynomial) (p n w : ℕ) → IsPoly (paramsOf bs .k) (paramsOf bs .d) (paramsOf bs .t) q →
-    PlaceClear bs p n w → Enough bs →
+pub place-opens-dealt : (bs : List ℕ) (q : Polynomial) (p n w lo : ℕ) → IsPoly (paramsOf bs .k) (paramsOf bs .d) (paramsOf bs .t) q →
+    PlaceClear bs p n w lo → Enough bs →
     ((f : ℕ) → f < filesOf bs → wordsOf bs f p ≡ value (paramsOf bs .k) (paramsOf bs .d) q (point (paramsOf bs .d) (holderOf bs f))) →
-    PlaceOpensTo bs p n w q (getD q 0 []) 0
-place-opens-dealt bs q p n w poly c m =
-    all-right bs (λ f. wordsOf bs f p) q (openPlace bs p n w) (place-decides bs p n w c m) poly (getD q 0 []) refl
+    PlaceOpensTo bs p n w lo q (getD q 0 []) 0
+place-opens-dealt bs q p n w lo poly c m =
+    all-right bs (λ f. wordsOf bs f p) q (openPlace bs p n w lo) (place-decides bs p n w lo c m) poly (getD q 0 []) refl
 
 -- ---- runs that follow each other, and an empty one
 
 -- "an empty run totals to zero words"
-pub empty-run : (bs : List ℕ) (a n w : ℕ) → bundleFault bs ≡ 0 → n ≡ paramsOf bs .d → w ≡ 1 → a ≤ bundleHeading bs .jobs → Enough bs →
-    RunOpensTo bs a a n w (replicate (suc (paramsOf bs .t)) (zeroE (paramsOf bs .d))) (zeroE (paramsOf bs .d)) 0
+pub empty-run : (bs : List ℕ) (a n w lo : ℕ) → bundleFault bs ≡ 0 → n ≡ paramsOf bs .d → w ≡ 1 → lo ≡ lowestRoom → a ≤ bundleHeading bs .jobs → Enough bs →
+    RunOpensTo bs a a n w lo (replicate (suc (paramsOf bs .t)) (zeroE (paramsOf bs .d))) (zeroE (paramsOf bs .d)) 0
 unfolding holdsDealt sumPolys sumTo
-empty-run bs a n w z o x l m =
+empty-run bs a n w lo z o x y l m =
     let e : a - a ≡ 0 = omega arith in
     let q : ℕ → Polynomial = λ i. [] in
-    subst (λ (j : ℕ). RunOpensTo bs a a n w (sumPoly bs q j) (sumOfJobs bs q j) 0) e
-    (run-opens bs q a a n w (λ i u. absurd (omega arith)) z o x (omega arith) l m
+    subst (λ (j : ℕ). RunOpensTo bs a a n w lo (sumPoly bs q j) (sumOfJobs bs q j) 0) e
+    (run-opens bs q a a n w lo (λ i u. absurd (omega arith)) z o x y (omega arith) l m
     (λ f u. every-all _ (a - a) (λ i v. absurd (omega arith))))
 
 -- words in width, of all files
-clear-join : (bs : List ℕ) (a b c n w : ℕ) → RunClear bs a b n w → RunClear bs b c n w → RunClear bs a c n w
-clear-join bs a b c n w x y =
+clear-join : (bs : List ℕ) (a b c n w lo : ℕ) → RunClear bs a b n w lo → RunClear bs b c n w lo → RunClear bs a c n w lo
+clear-join bs a b c n w lo x y =
     record {
       no-fault = x .no-fault;
       output = x .output;
       wrong-output = x .wrong-output;
+      lowest-output = x .lowest-output;
       low = omega (arith, x .low, y .low);
       high = y .high;
       width =
@@ -258,9 +261,9 @@ clear-join bs a b c n w x y =
     }
 
 -- a run that opens with nobody named, taken apart: each file's total is right, and the words are the free term
-module _ (bs : List ℕ) (a b n w : ℕ) (q : Polynomial) (s : Element) (g : RunOpensTo bs a b n w q s 0) where
+module _ (bs : List ℕ) (a b n w lo : ℕ) (q : Polynomial) (s : Element) (g : RunOpensTo bs a b n w lo q s 0) where
   opened-poly : IsPoly (paramsOf bs .k) (paramsOf bs .d) (paramsOf bs .t) q
-  opened-poly = let c = run-opened bs a b n w q (g .opened) in run-decides bs a b n w (c .0) (c .1) .found q (g .opened) .poly
+  opened-poly = let c = run-opened bs a b n w lo q (g .opened) in run-decides bs a b n w lo (c .0) (c .1) .found q (g .opened) .poly
 
   opened-free : s ≡ getD q 0 []
   opened-free = sym (g .secret []) ∙ ap (secretInto []) (g .opened)
@@ -269,25 +272,25 @@ module _ (bs : List ℕ) (a b n w : ℕ) (q : Polynomial) (s : Element) (g : Run
       runTotal bs f a (b - a) ≡ value (paramsOf bs .k) (paramsOf bs .d) q (point (paramsOf bs .d) (holderOf bs f))
   opened-right =
       let out : Opening → List ℕ = wrongInto (paramsOf bs .k) (paramsOf bs .d) (sharesOver bs a (b - a)) [] in
-      none-named bs (λ f. runTotal bs f a (b - a)) q (run-opened bs a b n w q (g .opened) .0 .no-fault)
+      none-named bs (λ f. runTotal bs f a (b - a)) q (run-opened bs a b n w lo q (g .opened) .0 .no-fault)
       (ap (λ (l : List ℕ). getD l 0 0) (sym (ap out (g .opened)) ∙ g .wrong []))
 
 -- opened with nobody named, the two add up
-pub runs-join : (bs : List ℕ) (a b c n w : ℕ) (p q : Polynomial) (u v : Element) → RunOpensTo bs a b n w p u 0 → RunOpensTo bs b c n w q v 0 →
-    RunOpensTo bs a c n w (sums (paramsOf bs .k) p q) (sum (paramsOf bs .k) u v) 0
-runs-join bs a b c n w p q u v g h =
+pub runs-join : (bs : List ℕ) (a b c n w lo : ℕ) (p q : Polynomial) (u v : Element) → RunOpensTo bs a b n w lo p u 0 → RunOpensTo bs b c n w lo q v 0 →
+    RunOpensTo bs a c n w lo (sums (paramsOf bs .k) p q) (sum (paramsOf bs .k) u v) 0
+runs-join bs a b c n w lo p q u v g h =
     let k = paramsOf bs .k in
     let d = paramsOf bs .d in
     let t = paramsOf bs .t in
-    let x = run-opened bs a b n w p (g .opened) in
-    let y = run-opened bs b c n w q (h .opened) in
+    let x = run-opened bs a b n w lo p (g .opened) in
+    let y = run-opened bs b c n w lo q (h .opened) in
     let r = range bs (x .0 .no-fault) in
-    let i = opened-poly bs a b n w p u g in
-    let j = opened-poly bs b c n w q v h in
-    all-right bs (λ f. runTotal bs f a (c - a)) (sums k p q) (openRun bs a c n w)
-    (run-decides bs a c n w (clear-join bs a b c n w (x .0) (y .0)) (x .1)) (sums-is-poly k d t p q i j) (sum k u v)
-    (sums-free k t p q (i .0) (j .0) ∙ sym (ap₂ (sum k) (opened-free bs a b n w p u g) (opened-free bs b c n w q v h)))
+    let i = opened-poly bs a b n w lo p u g in
+    let j = opened-poly bs b c n w lo q v h in
+    all-right bs (λ f. runTotal bs f a (c - a)) (sums k p q) (openRun bs a c n w lo)
+    (run-decides bs a c n w lo (clear-join bs a b c n w lo (x .0) (y .0)) (x .1)) (sums-is-poly k d t p q i j) (sum k u v)
+    (sums-free k t p q (i .0) (j .0) ∙ sym (ap₂ (sum k) (opened-free bs a b n w lo p u g) (opened-free bs b c n w lo q v h)))
     (λ f l.
     total-split bs f a b c (x .0 .low) (y .0 .low)
-    ∙ ap₂ (sum k) (opened-right bs a b n w p u g f l) (opened-right bs b c n w q v h f l)
+    ∙ ap₂ (sum k) (opened-right bs a b n w lo p u g f l) (opened-right bs b c n w lo q v h f l)
     ∙ sym (dealt-sum d (r .d-low) (r .d-high) k t p q i j (holderOf bs f)))

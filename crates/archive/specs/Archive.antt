@@ -8,7 +8,7 @@ use Rattle.words.specs.Faults.{lengthFault}
 use Rattle.words.specs.Refusal.{first, unless, WIDE-WORD}
 use Rattle.galois.specs.Element.{Element}
 use Rattle.codewords.specs.Codeword.{Share}
-use Rattle.codewords.specs.Opening.{Opening, answerTo, unlessFault}
+use Rattle.codewords.specs.Opening.{Opening, lowestRoom, answerTo, unlessFault}
 use Rattle.bundle.specs.Bundle.{bundleHeading, bundleFault, paramsOf, allowanceOf, filesOf, holderOf}
 use Rattle.bundle.specs.Contents.{wordsOf}
 use Rattle.fetch.specs.Fetch.{placeFault, runFault}
@@ -46,18 +46,23 @@ filesInWidth bs a n = every (λ f. runInWidth bs f a n) (filesOf bs)
 unfoldable pub runOpening : List ℕ → ℕ → ℕ → Opening
 runOpening bs a n = unlessFault (unless (filesInWidth bs a n) WIDE-WORD) (answerTo (paramsOf bs) (allowanceOf bs) (sharesOver bs a n))
 
--- ---- the calls, with an output of n words for the job and one of w for the wrong holders
+-- ---- the calls, with an output of n words for the job, one of w for the wrong holders, and one of l bytes for their positions
+
+-- an output of any other length is 2
+unfoldable pub outputsFault : ℕ → ℕ → ℕ → ℕ → ℕ
+outputsFault d n w l = first (lengthFault d n) (first (lengthFault 1 w) (lengthFault lowestRoom l))
 
 -- the refusals ahead of an opening: the bundle's, 2, and c, that of the place or the run
-unfoldable pub openingFault : List ℕ → ℕ → ℕ → ℕ → ℕ
-openingFault bs n w c = first (bundleFault bs) (first (lengthFault (paramsOf bs .d) n) (first (lengthFault 1 w) c))
+unfoldable pub openingFault : List ℕ → ℕ → ℕ → ℕ → ℕ → ℕ
+unfolding outputsFault
+openingFault bs n w l c = first (bundleFault bs) (first (outputsFault (paramsOf bs .d) n w l) c)
 
 -- opening the job at a place
-unfoldable pub openPlace : List ℕ → ℕ → ℕ → ℕ → Opening
+unfoldable pub openPlace : List ℕ → ℕ → ℕ → ℕ → ℕ → Opening
 unfolding placeOpening openingFault
-openPlace bs p n w = unlessFault (openingFault bs n w (placeFault (bundleHeading bs) p)) (placeOpening bs p)
+openPlace bs p n w l = unlessFault (openingFault bs n w l (placeFault (bundleHeading bs) p)) (placeOpening bs p)
 
 -- opening a run
-unfoldable pub openRun : List ℕ → ℕ → ℕ → ℕ → ℕ → Opening
+unfoldable pub openRun : List ℕ → ℕ → ℕ → ℕ → ℕ → ℕ → Opening
 unfolding runOpening openingFault
-openRun bs a b n w = unlessFault (openingFault bs n w (runFault (bundleHeading bs) a b)) (runOpening bs a (b - a))
+openRun bs a b n w l = unlessFault (openingFault bs n w l (runFault (bundleHeading bs) a b)) (runOpening bs a (b - a))

@@ -6,16 +6,16 @@ use mathlib.Core.Bool.{Bool, not}
 use mathlib.Core.List.{List, [], _∷_}
 use lib.ListN.{getD, replicate}
 use Rattle.algebra.specs.Shares.{count}
-use Rattle.galois.specs.Element.{Element, zeroE, point, same}
-use Rattle.codewords.specs.Codeword.{Share, Polynomial, value, errorSet}
+use Rattle.galois.specs.Element.{Element, zeroE}
+use Rattle.codewords.specs.Codeword.{Share, Polynomial, differs, errorSet}
 use Rattle.codewords.specs.Linear.{sums}
 use Rattle.codewords.specs.Opening.{Opening, opens, secretInto, wrongInto}
 use Rattle.codewords.specs.WellFormed.{IsPoly}
-use Rattle.bundle.specs.Bundle.{paramsOf, filesOf, holderOf}
+use Rattle.bundle.specs.Bundle.{paramsOf, filesOf}
 use Rattle.bundle.specs.Contents.{wordsOf}
 use Rattle.totals.specs.Total.{sumTo}
 use Rattle.totals.specs.Values.{valuesFrom, every}
-use Rattle.archive.specs.Archive.{sharesAt, sharesOver, openPlace, openRun}
+use Rattle.archive.specs.Archive.{shareBy, sharesAt, sharesOver, openPlace, openRun}
 
 -- ---- the polynomials q 0, .., q (n - 1) that deal the jobs of a run of n places
 
@@ -44,9 +44,9 @@ sumOfJobs bs q n = sumTo (paramsOf bs .k) (paramsOf bs .d) (freeTerms q) n
 
 -- whether file f holds its holder's share of each of the n jobs from place a on, where the job at place a + i is dealt by q i
 unfoldable pub holdsDealt : List ℕ → (ℕ → Polynomial) → ℕ → ℕ → ℕ → Bool
-unfolding every same value point
+unfolding every differs
 holdsDealt bs q a n f =
-    every (λ i. same (wordsOf bs f (a + i)) (value (paramsOf bs .k) (paramsOf bs .d) (q i) (point (paramsOf bs .d) (holderOf bs f)))) n
+    every (λ i. not (differs (paramsOf bs .k) (paramsOf bs .d) (q i) (shareBy bs (λ g. wordsOf bs g (a + i)) f))) n
 
 -- how many files hold something else somewhere in the run
 abbrev pub changedFiles : List ℕ → (ℕ → Polynomial) → ℕ → ℕ → ℕ
@@ -64,9 +64,9 @@ pub record BundleOpensTo (bs : List ℕ) (ss : List Share) (o : Opening) (q : Po
   pub secret : (old : List ℕ) → secretInto old o ≡ s
   pub wrong : (old : List ℕ) → wrongInto (paramsOf bs .k) (paramsOf bs .d) ss old o ≡ x ∷ []
 
--- the job at place p, and the run of the places a to b - 1, with outputs of n and of w words
-abbrev pub PlaceOpensTo : List ℕ → ℕ → ℕ → ℕ → Polynomial → Element → ℕ → Type 0
-PlaceOpensTo bs p n w = BundleOpensTo bs (sharesAt bs p) (openPlace bs p n w)
+-- the job at place p, and the run of the places a to b - 1, with outputs of n and of w words and of l bytes
+abbrev pub PlaceOpensTo : List ℕ → ℕ → ℕ → ℕ → ℕ → Polynomial → Element → ℕ → Type 0
+PlaceOpensTo bs p n w l = BundleOpensTo bs (sharesAt bs p) (openPlace bs p n w l)
 
-abbrev pub RunOpensTo : List ℕ → ℕ → ℕ → ℕ → ℕ → Polynomial → Element → ℕ → Type 0
-RunOpensTo bs a b n w = BundleOpensTo bs (sharesOver bs a (b - a)) (openRun bs a b n w)
+abbrev pub RunOpensTo : List ℕ → ℕ → ℕ → ℕ → ℕ → ℕ → Polynomial → Element → ℕ → Type 0
+RunOpensTo bs a b n w l = BundleOpensTo bs (sharesOver bs a (b - a)) (openRun bs a b n w l)

@@ -9,7 +9,7 @@ ghost use Rattle.words.specs.Refusal.{kept};
 ghost use Rattle.words.specs.Signed.{signedOf, twosComplement};
 ghost use Rattle.galois.specs.Element.{sum, product, lower, inverse};
 ghost use Rattle.arithmetic.specs.Calls.{operandFault, operandsFault};
-ghost use Rattle.codewords.specs.Opening.{faultOf, secretInto, wrongInto};
+ghost use Rattle.codewords.specs.Opening.{faultOf, secretInto, wrongInto, lowestInto};
 ghost use Rattle.sharing.specs.Dealing.{dealFault, dealt};
 ghost use Rattle.sharing.specs.Opening.{lent, opening};
 ghost use Rattle.bundle.specs.Bundle.{fileFault, bundleFault, paramsOf};
@@ -98,7 +98,7 @@ pub extern "C" fn yikes_deal(
     sharing::deal(Params { k, d, n, t }, job, coefficients, out)
 }
 
-// A job opened from lent shares, with the set of the wrong holders as a second output of one word.
+// A job opened from lent shares, with the set of the wrong holders as a second output of one word, and their positions as a third of 64 bytes.
 #[no_mangle]
 pub extern "C" fn yikes_open(
     k: u64,
@@ -110,16 +110,28 @@ pub extern "C" fn yikes_open(
     e: u64,
     out: &mut [u64],
     wrong: &mut [u64],
+    lowest: &mut [u8],
 ) -> u8
     ensures fault { λ r. ⌜ r ≡ faultOf (opening (params k d n t) (now (holders .entry)) (now (shares .entry)) e (length (now (out .entry)))
-        (length (now (wrong .entry)))) ⌝ }
+        (length (now (wrong .entry))) (length (now (lowest .entry)))) ⌝ }
     ensures out { λ _. ⌜ now (out .exit) ≡ secretInto (now (out .entry)) (opening (params k d n t) (now (holders .entry))
-        (now (shares .entry)) e (length (now (out .entry))) (length (now (wrong .entry)))) ⌝ }
+        (now (shares .entry)) e (length (now (out .entry))) (length (now (wrong .entry))) (length (now (lowest .entry)))) ⌝ }
     ensures wrong { λ _. ⌜ now (wrong .exit) ≡ wrongInto k d (lent d (now (holders .entry)) (now (shares .entry))) (now (wrong .entry))
         (opening (params k d n t) (now (holders .entry)) (now (shares .entry)) e (length (now (out .entry)))
-        (length (now (wrong .entry)))) ⌝ }
+        (length (now (wrong .entry))) (length (now (lowest .entry)))) ⌝ }
+    ensures lowest { λ _. ⌜ now (lowest .exit) ≡ lowestInto k d (lent d (now (holders .entry)) (now (shares .entry))) (now (lowest .entry))
+        (opening (params k d n t) (now (holders .entry)) (now (shares .entry)) e (length (now (out .entry)))
+        (length (now (wrong .entry))) (length (now (lowest .entry)))) ⌝ }
 {
-    sharing::open_shares(Params { k, d, n, t }, holders, shares, e, out, wrong)
+    sharing::open_shares(
+        Params { k, d, n, t },
+        holders,
+        shares,
+        e,
+        out,
+        wrong,
+        lowest,
+    )
 }
 
 // The signed reading of a word, in two's complement, into an output of one word.
@@ -230,22 +242,27 @@ pub extern "C" fn yikes_file(bytes: &[u8], index: usize, part: &mut [u64]) -> u8
     describe::file_part(bytes, index, part)
 }
 
-// Opens the job at a place, with the set of the wrong holders as a second output of one word.
+// Opens the job at a place, with the set of the wrong holders as a second output of one word, and their positions as a third of 64 bytes.
 #[no_mangle]
 pub extern "C" fn yikes_open_place(
     bytes: &[u8],
     place: usize,
     out: &mut [u64],
     wrong: &mut [u64],
+    lowest: &mut [u8],
 ) -> u8
-    ensures fault { λ r. ⌜ r ≡ faultOf (openPlace (now (bytes .entry)) place (length (now (out .entry))) (length (now (wrong .entry)))) ⌝ }
-    ensures out { λ _. ⌜ now (out .exit) ≡ secretInto (now (out .entry))
-        (openPlace (now (bytes .entry)) place (length (now (out .entry))) (length (now (wrong .entry)))) ⌝ }
+    ensures fault { λ r. ⌜ r ≡ faultOf (openPlace (now (bytes .entry)) place (length (now (out .entry))) (length (now (wrong .entry)))
+        (length (now (lowest .entry)))) ⌝ }
+    ensures out { λ _. ⌜ now (out .exit) ≡ secretInto (now (out .entry)) (openPlace (now (bytes .entry)) place (length (now (out .entry)))
+        (length (now (wrong .entry))) (length (now (lowest .entry)))) ⌝ }
     ensures wrong { λ _. ⌜ now (wrong .exit) ≡ wrongInto (paramsOf (now (bytes .entry)) .k) (paramsOf (now (bytes .entry)) .d)
-        (sharesAt (now (bytes .entry)) place) (now (wrong .entry))
-        (openPlace (now (bytes .entry)) place (length (now (out .entry))) (length (now (wrong .entry)))) ⌝ }
+        (sharesAt (now (bytes .entry)) place) (now (wrong .entry)) (openPlace (now (bytes .entry)) place (length (now (out .entry)))
+        (length (now (wrong .entry))) (length (now (lowest .entry)))) ⌝ }
+    ensures lowest { λ _. ⌜ now (lowest .exit) ≡ lowestInto (paramsOf (now (bytes .entry)) .k) (paramsOf (now (bytes .entry)) .d)
+        (sharesAt (now (bytes .entry)) place) (now (lowest .entry)) (openPlace (now (bytes .entry)) place (length (now (out .entry)))
+        (length (now (wrong .entry))) (length (now (lowest .entry)))) ⌝ }
 {
-    archive::open_place(bytes, place, out, wrong)
+    archive::open_place(bytes, place, out, wrong, lowest)
 }
 
 // Opens the sum of the jobs at the places a to b - 1, in the same way.
@@ -256,15 +273,20 @@ pub extern "C" fn yikes_open_run(
     b: usize,
     out: &mut [u64],
     wrong: &mut [u64],
+    lowest: &mut [u8],
 ) -> u8
-    ensures fault { λ r. ⌜ r ≡ faultOf (openRun (now (bytes .entry)) a b (length (now (out .entry))) (length (now (wrong .entry)))) ⌝ }
-    ensures out { λ _. ⌜ now (out .exit) ≡ secretInto (now (out .entry))
-        (openRun (now (bytes .entry)) a b (length (now (out .entry))) (length (now (wrong .entry)))) ⌝ }
+    ensures fault { λ r. ⌜ r ≡ faultOf (openRun (now (bytes .entry)) a b (length (now (out .entry))) (length (now (wrong .entry)))
+        (length (now (lowest .entry)))) ⌝ }
+    ensures out { λ _. ⌜ now (out .exit) ≡ secretInto (now (out .entry)) (openRun (now (bytes .entry)) a b (length (now (out .entry)))
+        (length (now (wrong .entry))) (length (now (lowest .entry)))) ⌝ }
     ensures wrong { λ _. ⌜ now (wrong .exit) ≡ wrongInto (paramsOf (now (bytes .entry)) .k) (paramsOf (now (bytes .entry)) .d)
-        (sharesOver (now (bytes .entry)) a (b - a)) (now (wrong .entry))
-        (openRun (now (bytes .entry)) a b (length (now (out .entry))) (length (now (wrong .entry)))) ⌝ }
+        (sharesOver (now (bytes .entry)) a (b - a)) (now (wrong .entry)) (openRun (now (bytes .entry)) a b (length (now (out .entry)))
+        (length (now (wrong .entry))) (length (now (lowest .entry)))) ⌝ }
+    ensures lowest { λ _. ⌜ now (lowest .exit) ≡ lowestInto (paramsOf (now (bytes .entry)) .k) (paramsOf (now (bytes .entry)) .d)
+        (sharesOver (now (bytes .entry)) a (b - a)) (now (lowest .entry)) (openRun (now (bytes .entry)) a b (length (now (out .entry)))
+        (length (now (wrong .entry))) (length (now (lowest .entry)))) ⌝ }
 {
-    archive::open_run(bytes, a, b, out, wrong)
+    archive::open_run(bytes, a, b, out, wrong, lowest)
 }
 
 // The total of a holder's file over the places a to b - 1.

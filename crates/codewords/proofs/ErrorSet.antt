@@ -142,15 +142,15 @@ module _ (k d : ℕ) (p : Polynomial) (ss : List Share) where
 
 -- ---- holder by holder
 
-all-in : (P : Share → Type 0) (ss : List Share) {s : Share} → All P ss → List·Memᴰ s ss → P s
+pub all-in : (P : Share → Type 0) (ss : List Share) {s : Share} → All P ss → List·Memᴰ s ss → P s
 all-in P [] a m = absurd (List·Memᴰ·not-nil m)
 all-in P (r ∷ ss) {s} a m = ⊎-elim {C = P s} (λ e. subst P (sym e) (a .0)) (λ n. all-in P ss (a .1) n) (List·Memᴰ·cases-cons m)
 
 -- a share of holder i is present, or none
-abbrev Has : ℕ → List Share → Type 0
+abbrev pub Has : ℕ → List Share → Type 0
 Has i ss = (s : Share) × List·Memᴰ s ss × (s .holder ≡ i)
 
-look : (i : ℕ) (ss : List Share) → Has i ss ⊎ All (λ (s : Share). i ≢ s .holder) ss
+pub look : (i : ℕ) (ss : List Share) → Has i ss ⊎ All (λ (s : Share). i ≢ s .holder) ss
 look i [] = inr tt
 look i (s ∷ ss) = go (ℕ-discrete (s .holder) i) (look i ss)
   where

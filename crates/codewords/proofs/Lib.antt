@@ -1,10 +1,12 @@
 pub mod Candidate
+pub mod Compared
 pub mod Drop
 pub mod ErrorSet
 pub mod Find
 pub mod Jump
 pub mod Linear
 pub mod Opening
+pub mod Positions
 pub mod Reduction
 pub mod Residue
 pub mod Tells

@@ -17,11 +17,11 @@ use Rattle.words.specs.Refusal.{kept, WIDE-WORD, TOO-FEW-SHARES, NO-CODEWORD}
 use Rattle.words.specs.declared.Params.{Params}
 use Rattle.words.proofs.InRange.{ok-range}
 use Rattle.algebra.proofs.Shares.{all-map}
-use Rattle.polynomial.specs.Rows.{Rows, Shaped}
+use Rattle.polynomial.specs.Rows.{Rows, Shaped, coefs}
 use Rattle.polynomial.proofs.Shape.{shaped-length}
-use Rattle.codewords.specs.Codeword.{Share, Polynomial, codeword}
+use Rattle.codewords.specs.Codeword.{Share, Polynomial, errorSet, positions, codeword}
 use Rattle.codewords.specs.Demand.{Within, NoneWithin, Decides}
-use Rattle.codewords.specs.Opening.{Opening, declines, opens, faultOf, secretInto, wrongOf, wrongInto, unlessFault}
+use Rattle.codewords.specs.Opening.{Opening, declines, opens, faultOf, secretInto, wrongOf, wrongInto, lowestInto, unlessFault}
 use Rattle.codewords.specs.Opening.{fromCodeword, answerTo, JobState, openingIn}
 use Rattle.codewords.specs.WellFormed.{IsPoly, Holders}
 use Rattle.codewords.proofs.ErrorSet.{ones-errors}
@@ -129,14 +129,19 @@ module _ (p : Params) (ok : paramsOk p ≡ true) (e : ℕ) (ss : List Share) (ho
       }
 
 -- what a call hands out of a number c, of rows and of a set w that stand for an opening o
-pub record Handed (k d : ℕ) (ss : List Share) (c : ℕ) (rows : Rows) (w : ℕ) (o : Opening) : Type 0 where
+pub record Handed (k d t : ℕ) (ss : List Share) (c : ℕ) (rows : Rows) (w : ℕ) (o : Opening) : Type 0 where
   pub fault : c ≡ faultOf o
   pub secret : (old : List ℕ) → kept c old (take d (getD rows 0 [])) ≡ secretInto old o
   pub wrong : (old : List ℕ) → kept c old (w ∷ []) ≡ wrongInto k d ss old o
+  pub lowest : (old : List ℕ) → kept c old (positions k d (coefs d (suc t) rows) ss) ≡ lowestInto k d ss old o
+  pub set : c ≡ 0 → w ≡ errorSet k d (coefs d (suc t) rows) ss
 
 pub handed : (k d t : ℕ) (ss : List Share) (c : ℕ) (rows : Rows) (w : ℕ) (o : Opening) → Shaped rows → openingIn d t c rows ≡ o →
-    w ≡ wrongOf k d ss o → Handed k d ss c rows w o
+    w ≡ wrongOf k d ss o → Handed k d t ss c rows w o
 handed k d t ss zero [] w o h e x = absurd (suc-ne-zero 63 (sym (shaped-length [] h)))
 handed k d t ss zero (r ∷ rows) w o h e x =
-    rw (← e) (record { fault = refl; secret = λ old. refl; wrong = λ old. ap (λ u. u ∷ []) (x ∙ sym (ap (wrongOf k d ss) e)) })
-handed k d t ss (suc c) rows w o h e x = rw (← e) (record { fault = refl; secret = λ old. refl; wrong = λ old. refl })
+    let y = x ∙ sym (ap (wrongOf k d ss) e) in
+    rw (← e) (record { fault = refl; secret = λ old. refl; wrong = λ old. ap (λ u. u ∷ []) y; lowest = λ old. refl; set = λ z. y })
+handed k d t ss (suc c) rows w o h e x =
+    rw (← e)
+    (record { fault = refl; secret = λ old. refl; wrong = λ old. refl; lowest = λ old. refl; set = λ z. absurd (suc-ne-zero c z) })

@@ -20,8 +20,10 @@ use Rattle.galois.proofs.Elements.{same-eq, eq-same}
 use Rattle.galois.proofs.Instance.{ringOf}
 use Rattle.polynomial.proofs.OverRing.{polyOf}
 use Rattle.codewords.specs.Codeword.{Share, Polynomial, value, differs}
+use Rattle.codewords.specs.Comparison.{apart}
 use Rattle.codewords.specs.Residue.{residue, bitOf}
 use Rattle.codewords.specs.WellFormed.{IsElement, IsPoly}
+use Rattle.codewords.proofs.Compared.{unequal-same}
 use Rattle.codewords.proofs.Value.{shareOf, Rows, rows-of, value-at, value-element, differs-misses}
 
 module _ (d : ℕ) (dl : 2 ≤ d) (dh : d ≤ 6) (k : ℕ) (p : Polynomial) (r : Rows d p) where
@@ -53,7 +55,7 @@ module _ (d : ℕ) (dl : 2 ≤ d) (dh : d ≤ 6) (k : ℕ) (p : Polynomial) (r :
       (toList-inj k (left s) (GR d k .𝟘) (sym (residue-of s l) ∙ e ∙ zero-of k d)))
 
 pub residue-zero : (d : ℕ) → 2 ≤ d → d ≤ 6 → (k t : ℕ) (p : Polynomial) → IsPoly k d t p → (s : Share) → IsElement k d (s .words) →
-    differs k d p s ≡ not (same (residue k d p s) (zeroE d))
+    differs k d p s ≡ apart (residue k d p s) (zeroE d)
 residue-zero d dl dh k t p i s w =
     let r = rows-of k d t p i in
     let u = eval (GR d k) (polyOf k d p) (shareOf k d s .at) in
@@ -63,6 +65,7 @@ residue-zero d dl dh k t p i s w =
     (same-test (ringOf d k .eqb u y) (same (residue k d p s) (zeroE d))
     (λ e. eq-same (residue k d p s) (zeroE d) (residue-none d dl dh k p r s (w .0) (ringOf d k .eqb-eq u y e)))
     (λ e. eqb-true (ringOf d k) (none-residue d dl dh k p r s (w .0) (same-eq (residue k d p s) (zeroE d) e))))
+    ∙ sym (unequal-same (residue k d p s) (zeroE d))
 
 -- what is zero below bit v is zero in the ring of v bits
 zero-below : (v n : ℕ) (c : Element) → All (λ w. w % 2 ^ v ≡ 0) c → ofList v n c ≡ pad (Zk v) n nil

@@ -1,5 +1,6 @@
 -- Demand 3 of a call, by what it returned (`tells`), whatever the refusals ahead of 5 and 6 are: all that is asked of them is a number that is 0
--- exactly when none applies, and neither 5 nor 6 (`Ahead`). The same of shares with a wide word (`tells-wide`). Assumes nothing.
+-- exactly when none applies, and neither 5 nor 6 (`Ahead`). The same of shares with a wide word (`tells-wide`), and of the lowest bits at which wrong
+-- shares differ (`tells-lowest`). Assumes nothing.
 use mathlib.Core.Path.{_≡_, refl, sym, _∙_, ap, subst}
 use mathlib.Core.Bool.{Bool, true, false, true≢false, not, _||_}
 use mathlib.Core.Logic.{_⊎_, inl, inr, ⊎-elim}
@@ -14,11 +15,12 @@ use Rattle.words.specs.Params.{paramsOk}
 use Rattle.words.specs.Refusal.{TOO-FEW-SHARES, NO-CODEWORD}
 use Rattle.words.specs.declared.Params.{Params}
 use Rattle.words.proofs.InRange.{InRange, ok-range}
-use Rattle.codewords.specs.Codeword.{Share, Polynomial, errorSet, wide}
-use Rattle.codewords.specs.Demand.{Within, NoneWithin, Decides, Outputs, Returned, EnoughShares, TooFewShares, Wrong, bitFor, Exact, Tells, TellsWide}
-use Rattle.codewords.specs.Opening.{Opening, declines, opens, faultOf, secretInto, wrongInto, unlessFault, answerTo}
-use Rattle.codewords.specs.WellFormed.{Holders}
+use Rattle.codewords.specs.Codeword.{Share, Polynomial, errorSet, positions, wide}
+use Rattle.codewords.specs.Demand.{Within, NoneWithin, Decides, Outputs, Returned, EnoughShares, TooFewShares, Wrong, bitFor, Exact, Tells, TellsWide, Positions, TellsLowest}
+use Rattle.codewords.specs.Opening.{Opening, declines, opens, faultOf, secretInto, wrongInto, lowestInto, unlessFault, answerTo}
+use Rattle.codewords.specs.WellFormed.{InWidth, Holders}
 use Rattle.codewords.proofs.ErrorSet.{bit-wrong, bit-right}
+use Rattle.codewords.proofs.Positions.{positions-length, positioned, unpositioned, all-positions}
 use Rattle.codewords.proofs.Wide.{wide-differs, wide-none}
 use Rattle.codewords.proofs.Opening.{opens-inj, opens-not, unless-none, unless-some, answer-few, answer-decides}
 
@@ -86,10 +88,17 @@ module _ (p : Params) (e : ℕ) (ss : List Share) {Clear : Type 0} {f : ℕ} (ah
         record {
           job = (g .job ∙ ap (secretInto (old .job)) z) i;
           wrong = (g .wrong ∙ ap (wrongInto (p .k) (p .d) ss (old .wrong)) z) i;
+          lowest = (g .lowest ∙ ap (lowestInto (p .k) (p .d) ss (old .lowest)) z) i;
         }
 
     apart-not : {X : Type 0} (c : ℕ) → other c ≡ false → f ≡ c → X
     apart-not c h z = absurd (true≢false (sym (ahead .apart) ∙ ap other z ∙ h))
+
+    range : Clear → InRange p
+    range c = ok-range p (ahead .params c)
+
+    lowest : (q : Polynomial) → call ≡ opens q → new .lowest ≡ positions (p .k) (p .d) q ss
+    lowest q z = g .lowest ∙ ap (lowestInto (p .k) (p .d) ss (old .lowest)) z
 
     one : Clear → EnoughShares p e ss → (q : Polynomial) → Within p e ss q → call ≡ opens q → Exact p e ss new
     one c m q w z =
@@ -103,6 +112,9 @@ module _ (p : Params) (e : ℕ) (ss : List Share) {Clear : Type 0} {f : ℕ} (ah
           named = bit-wrong p ss (ahead .holders c) q;
           others = bit-right p ss (ahead .holders c) q;
           few = call-decides c m .names-few q z;
+          places = ap length (lowest q z) ∙ positions-length (p .k) (p .d) q ss;
+          positioned = rw (lowest q z) (positioned p (range c) ss (ahead .holders c) q);
+          unpositioned = rw (lowest q z) (unpositioned p (range c) ss (ahead .holders c) q);
         }
 
     told : Case → Tells p e ss Clear old r new
@@ -158,9 +170,6 @@ module _ (p : Params) (e : ℕ) (ss : List Share) {Clear : Type 0} {f : ℕ} (ah
           too-many = λ c m h. tells .no-curve .1 (c, m, let b = range c in wide-none (p .d) (b .d-low) (b .d-high) (p .k) (p .t) ss (ahead .holders c) e h);
         }
       where
-        range : Clear → InRange p
-        range c = ok-range p (ahead .params c)
-
         one : (x : Exact p e ss new) → Clear → (s : Share) → List·Memᴰ s ss → 1 ≤ s .holder → wide (p .k) s ≡ true →
             bitFor (s .holder) (getD (new .wrong) 0 0) ≡ 1
         one x c s m l v =
@@ -179,3 +188,16 @@ module _ (p : Params) (e : ℕ) (ss : List Share) {Clear : Type 0} {f : ℕ} (ah
             All (λ (s : Share). wide (p .k) s ≡ true → bitFor (s .holder) (getD (new .wrong) 0 0) ≡ 1) rs
         each x c [] i h = tt
         each x c (s ∷ rs) i h = (one x c s (i s (List·Memᴰ·head refl)) (h .0 .0), each x c rs (λ r m. i r (List·Memᴰ·tail m)) (h .1))
+
+    -- shares of d words of 64 bits
+    pub tells-lowest : InWidth 64 (p .d) ss → TellsLowest p e ss r new
+    unfolding one
+    tells-lowest h z = by cases
+      where
+        by : Case → (x : Exact p e ss new) × Positions p ss (x .q) (new .lowest)
+        by (refuses n y) = absurd (n (ahead .clear (sym (number y) ∙ z)))
+        by (has-few c m y) = absurd (omega (arith, z, number y))
+        by (has-none c m n y) = absurd (omega (arith, z, number y))
+        by (has-one c m q w y) =
+            let a = all-positions p (range c) ss (ahead .holders c) q (w .poly) h in
+            (one c m q w y, subst (Positions p ss q) (sym (lowest q y)) a)

@@ -7,8 +7,6 @@ use Prim.Native.Nat.{ℕ, zero, suc, _+_, _≤_}
 use native.Mathlib.Nat.{suc-ne-zero}
 use native.Mathlib.Omega.{arith}
 use lib.ListN.{length, getD, replicate, length-replicate}
-use borrow.Author.Tests.{not-false}
-use Rattle.words.proofs.Tests.{same-test}
 use Rattle.algebra.specs.Poly.{eval}
 use Rattle.algebra.specs.Shares as A
 use Rattle.algebra.specs.Shares.{bit, count, All, misses}
@@ -17,12 +15,13 @@ use Rattle.algebra.proofs.Shares.{all-map}
 use Rattle.galois.specs.Element.{zeroE, point, same}
 use Rattle.galois.proofs.Galois.{GR}
 use Rattle.galois.proofs.Lists.{toList, ofList, length-toList, of-to, to-of, width-to, zero-of, of-zero}
-use Rattle.galois.proofs.Elements.{same-eq, eq-same}
 use Rattle.galois.proofs.Points.{length-point, pointR}
 use Rattle.galois.proofs.Instance.{ringOf}
 use Rattle.polynomial.proofs.OverRing.{polyOf, value-of}
 use Rattle.codewords.specs.Codeword.{Share, Polynomial, value, differs, errors, when}
+use Rattle.codewords.specs.Comparison.{unequal}
 use Rattle.codewords.specs.WellFormed.{IsElement, IsPoly, InWidth}
+use Rattle.codewords.proofs.Compared.{none-same, same-none, unequal-same}
 use Rattle.codewords.proofs.Find.{fixed, zero-element}
 
 -- a share in the ring: words are cut to k bits
@@ -41,18 +40,19 @@ pub free-element : (k d t : ℕ) (p : Polynomial) → IsPoly k d t p → IsEleme
 free-element k d t [] h = absurd (suc-ne-zero t (sym (h .0)))
 free-element k d t (c ∷ p) h = h .1 .0
 
--- a share does not differ exactly when it holds the value
+-- a share does not differ exactly when it holds the value: the same shares differ as before paper 02, K4 (`differs-same`)
 module _ (k d : ℕ) (p : Polynomial) (s : Share) where
-  pub right-same : differs k d p s ≡ false → same (s .words) (value k d p (point d (s .holder))) ≡ true
-  unfolding differs
-  right-same e = not-false (same (s .words) (value k d p (point d (s .holder)))) e
-
   pub right-value : differs k d p s ≡ false → s .words ≡ value k d p (point d (s .holder))
-  right-value e = same-eq (s .words) (value k d p (point d (s .holder))) (right-same e)
+  unfolding differs
+  right-value e = none-same (s .words) (value k d p (point d (s .holder))) e
 
   pub value-right : s .words ≡ value k d p (point d (s .holder)) → differs k d p s ≡ false
   unfolding differs
-  value-right e = ap not (eq-same (s .words) (value k d p (point d (s .holder))) e)
+  value-right e = ap unequal (same-none (s .words) (value k d p (point d (s .holder))) e)
+
+  pub differs-same : differs k d p s ≡ not (same (s .words) (value k d p (point d (s .holder))))
+  unfolding differs
+  differs-same = unequal-same (s .words) (value k d p (point d (s .holder)))
 
 module _ (d : ℕ) (dl : 2 ≤ d) (dh : d ≤ 6) (k : ℕ) where
   pub value-at : (p : Polynomial) → Rows d p → (s : Share) →
@@ -66,40 +66,40 @@ module _ (d : ℕ) (dl : 2 ≤ d) (dh : d ≤ 6) (k : ℕ) where
       rw (value-at p h s) (length-toList u, width-to k u)
 
   -- a share that does not differ holds the value
-  pub same-value : (p : Polynomial) → Rows d p → (s : Share) → same (s .words) (value k d p (point d (s .holder))) ≡ true →
-      eval (GR d k) (polyOf k d p) (shareOf k d s .at) ≡ shareOf k d s .val
-  same-value p h s e = sym (ap (ofList k d) (same-eq (s .words) (value k d p (point d (s .holder))) e ∙ value-at p h s) ∙ of-to k _)
-
   pub right-meets : (p : Polynomial) → Rows d p → (s : Share) → differs k d p s ≡ false →
       eval (GR d k) (polyOf k d p) (shareOf k d s .at) ≡ shareOf k d s .val
-  right-meets p h s e = same-value p h s (right-same k d p s e)
+  right-meets p h s e = sym (ap (ofList k d) (right-value k d p s e ∙ value-at p h s) ∙ of-to k _)
 
   -- so it is not missed
   pub misses-le : (p : Polynomial) → Rows d p → (s : Share) → bit (misses (ringOf d k) (polyOf k d p) (shareOf k d s)) ≤ bit (differs k d p s)
-  unfolding differs
-  misses-le p h s = go (same (s .words) (value k d p (point d (s .holder)))) refl
+  misses-le p h s = go (differs k d p s) refl
     where
       any : (b : Bool) → bit b ≤ 1
       any true = omega arith
       any false = omega arith
 
-      go : (b : Bool) → same (s .words) (value k d p (point d (s .holder))) ≡ b →
-          bit (misses (ringOf d k) (polyOf k d p) (shareOf k d s)) ≤ bit (not (same (s .words) (value k d p (point d (s .holder)))))
-      go true e = rw (eqb-true (ringOf d k) (same-value p h s e)) (omega arith)
-      go false e = rw e (any (misses (ringOf d k) (polyOf k d p) (shareOf k d s)))
+      go : (b : Bool) → differs k d p s ≡ b → bit (misses (ringOf d k) (polyOf k d p) (shareOf k d s)) ≤ bit b
+      go true e = any (misses (ringOf d k) (polyOf k d p) (shareOf k d s))
+      go false e = rw (eqb-true (ringOf d k) (right-meets p h s e)) (omega arith)
 
   -- a share in width differs exactly when it is missed
   pub differs-misses : (p : Polynomial) → Rows d p → (s : Share) → IsElement k d (s .words) →
       differs k d p s ≡ misses (ringOf d k) (polyOf k d p) (shareOf k d s)
-  unfolding differs
-  differs-misses p h s w =
-      let u = eval (GR d k) (polyOf k d p) (shareOf k d s .at) in
-      let v = shareOf k d s .val in
-      let back : u ≡ v → s .words ≡ value k d p (point d (s .holder)) =
-      λ e. sym (to-of k d (s .words) (w .0) ∙ fixed k d (s .words) w) ∙ ap toList {x = v} {y = u} (sym e) ∙ sym (value-at p h s) in
-      ap not
-      (same-test (same (s .words) (value k d p (point d (s .holder)))) (ringOf d k .eqb u v) (λ e. eqb-true (ringOf d k) (same-value p h s e))
-      (λ e. eq-same (s .words) (value k d p (point d (s .holder))) (back (ringOf d k .eqb-eq u v e))))
+  differs-misses p h s w = go (differs k d p s) refl (ringOf d k .eqb u v) refl
+    where
+      u : GR d k .E
+      u = eval (GR d k) (polyOf k d p) (shareOf k d s .at)
+
+      v : GR d k .E
+      v = shareOf k d s .val
+
+      back : u ≡ v → s .words ≡ value k d p (point d (s .holder))
+      back e = sym (to-of k d (s .words) (w .0) ∙ fixed k d (s .words) w) ∙ ap toList {x = v} {y = u} (sym e) ∙ sym (value-at p h s)
+
+      go : (b : Bool) → differs k d p s ≡ b → (c : Bool) → ringOf d k .eqb u v ≡ c → b ≡ not c
+      go true e true f = sym e ∙ value-right k d p s (back (ringOf d k .eqb-eq u v f))
+      go true e false f = refl
+      go false e c f = ap not (sym (eqb-true (ringOf d k) (right-meets p h s e)) ∙ f)
 
   -- the shares that differ are at least those that are missed, and in width they are the same
   pub count-errors : (p : Polynomial) → Rows d p → (ss : List Share) →

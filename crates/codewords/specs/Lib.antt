@@ -1,4 +1,5 @@
 pub mod Codeword
+pub mod Comparison
 pub mod Demand
 pub mod Linear
 pub mod Opening

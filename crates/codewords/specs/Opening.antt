@@ -1,5 +1,5 @@
--- What shares open to, paper 01, "Ring, points, shares" and "When a call declines": a refusal's number or a polynomial. The job's words and the
--- wrong holders are functions of it and the shares. Assumes nothing.
+-- What shares open to, paper 01, "Ring, points, shares" and "When a call declines": a refusal's number or a polynomial. The job's words, the
+-- wrong holders and their positions are functions of it and the shares. Assumes nothing.
 use Prim.Native.Nat.{ℕ, zero, suc, _+_, _*_}
 use mathlib.Core.Path.{_≡_}
 use mathlib.Core.Bool.{cond}
@@ -11,7 +11,7 @@ use lib.ListN.{length, getD}
 use Rattle.words.specs.Refusal.{TOO-FEW-SHARES, NO-CODEWORD}
 use Rattle.words.specs.declared.Params.{Params}
 use Rattle.polynomial.specs.Rows.{Rows, coefs}
-use Rattle.codewords.specs.Codeword.{Share, Polynomial, errorSet, codeword}
+use Rattle.codewords.specs.Codeword.{Share, Polynomial, errorSet, positions, codeword}
 
 -- An opening declines with a refusal's number, or gives the polynomial of degree at most t within the error bound.
 pub data Opening : Type 0 where
@@ -37,6 +37,15 @@ wrongOf k d ss (opens q) = errorSet k d q ss
 abbrev pub wrongInto : ℕ → ℕ → List Share → List ℕ → Opening → List ℕ
 wrongInto k d ss old (declines c) = old
 wrongInto k d ss old (opens q) = errorSet k d q ss ∷ []
+
+-- an output for their positions, one byte for each of 64 holders
+abbrev pub lowestInto : ℕ → ℕ → List Share → List ℕ → Opening → List ℕ
+lowestInto k d ss old (declines c) = old
+lowestInto k d ss old (opens q) = positions k d q ss
+
+-- how long it is
+abbrev pub lowestRoom : ℕ
+lowestRoom = 64
 
 -- a fault ahead of an opening
 abbrev pub unlessFault : ℕ → Opening → Opening

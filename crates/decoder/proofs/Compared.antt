@@ -1,67 +1,48 @@
 -- Shares compared with zero, one by one: which of them are not zero, by their bits, and a turn of the loop that collects these; and where they are
 -- what a polynomial leaves of shares, that these are the ones that differ from it (`left-set`). Assumes nothing.
 use mathlib.Core.Path.{_≡_, refl, sym, _∙_, ap, ap₂}
-use mathlib.Core.Bool.{Bool, true, false, not, _&&_}
-use mathlib.Core.List.{List, [], _∷_, _++_, map}
-use Prim.Native.Nat.{ℕ, suc, _+_, _-_, _*_, _/_, _%_, _^_, _≤_, _<_}
-use native.Mathlib.Nat.{one-mul, mod-eq-of-lt, le-of-eq, zero-add}
+use mathlib.Core.Bool.{true, false}
+use mathlib.Core.List.{List, [], _∷_, map}
+use Prim.Native.Nat.{ℕ, _+_, _-_, _^_, _≤_, _<_}
+use native.Mathlib.Nat.{le-of-eq}
 use native.Mathlib.Omega.{arith}
 use lib.Bits.{bitOr}
-use lib.Dec.{eqb}
-use lib.Pow.{pow-lt}
-use lib.ListN.{length, take, getD}
+use lib.ListN.{length, take, getD, length-replicate}
 use lib.Seq.{take-all}
+use Rattle.words.proofs.Tests.{bool-cases}
 use Rattle.algebra.specs.Shares.{All}
-use Rattle.algebra.proofs.Shares.{all-map}
-use Rattle.galois.specs.Element.{Element, zeroE, same, held}
-use Rattle.galois.proofs.Elements.{same-eq, eq-same, same-refl}
-use Rattle.galois.proofs.Held.{zeros-after}
+use Rattle.galois.specs.Element.{Element, zeroE, held}
+use Rattle.galois.proofs.Held.{zeros-held}
 use Rattle.polynomial.specs.Polynomial.{Polynomial, value}
 use Rattle.polynomial.specs.Rows.{Rows}
-use Rattle.codewords.specs.Codeword.{Share, when, differs, errors, errorSet}
+use Rattle.codewords.specs.Codeword.{Share, when, comparison, differs, errors, errorSet}
+use Rattle.codewords.specs.Comparison.{unequal, apart}
 use Rattle.codewords.specs.Residue.{residue, left}
-use Rattle.codewords.specs.WellFormed.{IsElement, IsPoly, InWidth, Holders}
-use Rattle.codewords.proofs.ErrorSet.{or-new, bit-clear}
+use Rattle.codewords.specs.WellFormed.{IsElement, IsPoly, InWidth}
+use Rattle.codewords.proofs.Compared.{none-same, same-none, compared-held}
 use Rattle.codewords.proofs.Residue.{residue-element, residue-zero}
 use Rattle.codewords.proofs.Value.{rows-of}
 use Rattle.codewords.proofs.Without.{reword}
 use Rattle.level.specs.Shares.{shareAt, sharesFrom, sharesOf}
-use Rattle.level.proofs.Shares.{from-start, from-next, holders-from}
+use Rattle.level.proofs.Shares.{from-start, from-next}
 use Rattle.decoder.specs.Residues.{bitsOf, bitsOfAll}
 use Rattle.decoder.proofs.Lowest.{bits-zero, zero-bits, all-zero, bits-held}
 
 -- words are not zero exactly when they have bits
-zero-false : (n : ℕ) (w : Element) → length w ≡ n → bitsOf w ≡ 0 → not (same w (zeroE n)) ≡ false
-zero-false n w l z = ap not (eq-same w (zeroE n) (bits-zero w z ∙ ap zeroE l))
+zero-false : (n : ℕ) (w : Element) → length w ≡ n → bitsOf w ≡ 0 → apart w (zeroE n) ≡ false
+zero-false n w l z = ap unequal (same-none w (zeroE n) (bits-zero w z ∙ ap zeroE l))
 
-zero-true : (n : ℕ) (w : Element) → (bitsOf w ≡ 0 → ⊥) → not (same w (zeroE n)) ≡ true
-zero-true n w h = go (same w (zeroE n)) refl
-  where
-    go : (b : Bool) → same w (zeroE n) ≡ b → not b ≡ true
-    go true e = absurd (h (ap bitsOf (same-eq w (zeroE n) e) ∙ zero-bits n))
-    go false e = refl
+zero-true : (n : ℕ) (w : Element) → (bitsOf w ≡ 0 → ⊥) → apart w (zeroE n) ≡ true
+zero-true n w h = bool-cases (apart w (zeroE n)) (λ e. e) (λ e. absurd (h (ap bitsOf (none-same w (zeroE n) e) ∙ zero-bits n)))
 
 -- as shares of six words
 pub differs-false : (s : Share) → length (s .words) ≡ 6 → bitsOf (s .words) ≡ 0 → differs 64 6 [] s ≡ false
-unfolding differs value
+unfolding differs comparison value
 differs-false s l z = zero-false 6 (s .words) l z
 
 pub differs-true : (s : Share) → (bitsOf (s .words) ≡ 0 → ⊥) → differs 64 6 [] s ≡ true
-unfolding differs value
+unfolding differs comparison value
 differs-true s h = zero-true 6 (s .words) h
-
--- zeros after the words change nothing
-same-after : (w : Element) (n : ℕ) → same (w ++ zeroE n) (zeroE (length w + n)) ≡ same w (zeroE (length w))
-unfolding same
-same-after [] n = ap (λ m. same (zeroE n) (zeroE m)) (zero-add n) ∙ same-refl (zeroE n)
-same-after (x ∷ w) n =
-    let e : suc (length w) + n ≡ suc (length w + n) = omega arith in
-    ap (λ m. same (x ∷ (w ++ zeroE n)) (zeroE m)) e ∙ ap (λ b. eqb x 0 && b) (same-after w n)
-
-same-held : (d : ℕ) (w : Element) → d ≤ 6 → length w ≡ d → same (held d w) (zeroE 6) ≡ same w (zeroE d)
-same-held d w h l =
-    let e : length w + (6 - d) ≡ 6 = omega arith in
-    ap₂ same (ap₂ _++_ (take-all d w (le-of-eq l)) (zeros-after d h)) (ap zeroE (sym e)) ∙ same-after w (6 - d) ∙ ap (λ n. same w (zeroE n)) l
 
 -- what is left of a share, in an array of six
 abbrev pub leftSix : ℕ → ℕ → Polynomial → Share → Share
@@ -83,9 +64,12 @@ module _ (d : ℕ) (dl : 2 ≤ d) (dh : d ≤ 6) (k t : ℕ) (p : Polynomial) (i
   no-errors ss a z = none-left ss a (all-zero k d p ss z)
 
   left-differs : (s : Share) → IsElement k d (s .words) → differs 64 6 [] (leftSix k d p s) ≡ differs k d p s
-  unfolding differs value
+  unfolding differs comparison value
   left-differs s w =
-      ap not (same-held d (residue k d p s) dh (length-left s w)) ∙ sym (residue-zero d dl dh k t p i s w)
+      let u = residue k d p s in
+      ap (apart (held d u)) (sym (zeros-held d dh))
+      ∙ ap unequal (compared-held d u (zeroE d) dh (length-left s w) (length-replicate d 0))
+      ∙ sym (residue-zero d dl dh k t p i s w)
 
   pub left-set : (ss : List Share) → InWidth k d ss → errorSet 64 6 [] (map (leftSix k d p) ss) ≡ errorSet k d p ss
   unfolding errorSet

@@ -1,4 +1,5 @@
--- Shares in two arrays as some are dropped in place: one turn of the loop, its start and its end. Assumes nothing.
+-- Shares in two arrays as some are dropped, out of place (`copy-turn`) and in place (`drop-turn`): a turn of the loop, its start and its end. Assumes
+-- nothing.
 use mathlib.Core.Path.{_≡_, refl, sym, _∙_, ap, ap₂}
 use mathlib.Core.List.{List, [], _∷_, _++_, append-assoc, append-nil, head-eq-of-cons-eq, tail-eq-of-cons-eq}
 use Prim.Native.Nat.{ℕ, zero, suc, _+_, _-_, _/_, _%_, _^_, _≤_, _<_}
@@ -51,10 +52,14 @@ module _ (d : ℕ) where
   from-cons hs ys i n = refl
 
   -- the start and the end
+  pub copy-start : (w : ℕ) (hs : List ℕ) (ys : Rows) (m : ℕ) (gs : List ℕ) (zs : Rows) →
+      sharesFrom d gs zs 0 0 ++ without w (sharesFrom d hs ys 0 (m - 0)) ≡ without w (sharesOf d m hs ys)
+  unfolding sharesFrom
+  copy-start w hs ys m gs zs = ap (λ (n : ℕ). without w (sharesFrom d hs ys 0 n)) (sub-zero m)
+
   pub drop-start : (w : ℕ) (hs : List ℕ) (ys : Rows) (m : ℕ) →
       sharesFrom d hs ys 0 0 ++ without w (sharesFrom d hs ys 0 (m - 0)) ≡ without w (sharesOf d m hs ys)
-  unfolding sharesFrom
-  drop-start w hs ys m = ap (λ (n : ℕ). without w (sharesFrom d hs ys 0 n)) (sub-zero m)
+  drop-start w hs ys m = copy-start w hs ys m hs ys
 
   pub drop-end : (w : ℕ) (hs : List ℕ) (ys : Rows) (i m : ℕ) → m ≤ i → (rs ts : List Share) →
       rs ++ without w (sharesFrom d hs ys i (m - i)) ≡ ts → rs ≡ ts
@@ -65,7 +70,46 @@ module _ (d : ℕ) where
       none-left : (n : ℕ) → n ≡ 0 → without w (sharesFrom d hs ys i n) ≡ []
       none-left n z = rw z
 
-  -- a turn: m shares, of which i are done and j kept; hs₀ and ys₀ are the arrays at the start
+  -- a turn: of m shares i are done and j kept, and that at i is written to the next place
+  module _ (w : ℕ) (hs₀ : List ℕ) (ys₀ : Rows) (m i : ℕ) (h : i < m) (hs : List ℕ) (ys : Rows) (j x : ℕ) (y : List ℕ)
+      (is : share x (take d y) ≡ shareAt d hs₀ ys₀ i) (lh : j < length hs) (ly : j < length ys) (ts : List Share)
+      (e : sharesFrom d hs ys 0 j ++ without w (sharesFrom d hs₀ ys₀ i (m - i)) ≡ ts) where
+    abbrev left : ℕ
+    left = m - (i + 1)
+
+    abbrev rest : List Share
+    rest = without w (sharesFrom d hs₀ ys₀ (suc i) left)
+
+    now-first : sharesFrom d hs ys 0 j ++ without w (shareAt d hs₀ ys₀ i ∷ sharesFrom d hs₀ ys₀ (suc i) left) ≡ ts
+    now-first =
+        let a : m - i ≡ suc left = omega arith in
+        ap (λ (l : List Share). sharesFrom d hs ys 0 j ++ without w l) (sym (ap (sharesFrom d hs₀ ys₀ i) a ∙ from-cons hs₀ ys₀ i left)) ∙ e
+
+    go : (b : ℕ) → w / 2 ^ (getD hs₀ i 0 - 1) % 2 ≡ b → Dec (b ≡ 0) → b < 2 → sharesFrom d (set hs j x) (set ys j y) 0 (j + (1 - b)) ++ rest ≡ ts
+    go b v (yes z) q =
+        let o : j + (1 - b) ≡ suc j = omega arith in
+        rw (o, from-set-at hs ys j x y lh ly, is)
+        (append-assoc (sharesFrom d hs ys 0 j) (shareAt d hs₀ ys₀ i ∷ []) rest
+        ∙ ap (λ (l : List Share). sharesFrom d hs ys 0 j ++ l)
+        (sym (without-keeps w (shareAt d hs₀ ys₀ i) (sharesFrom d hs₀ ys₀ (suc i) left) (v ∙ z)))
+        ∙ now-first)
+    go b v (no z) q =
+        let o : j + (1 - b) ≡ j = omega arith in
+        let u : b ≡ 1 = omega arith in
+        rw (o, from-set-after hs ys j x y 0 j (omega arith))
+        (ap (λ (l : List Share). sharesFrom d hs ys 0 j ++ l)
+        (sym (without-drops w (shareAt d hs₀ ys₀ i) (sharesFrom d hs₀ ys₀ (suc i) left) (v ∙ u)))
+        ∙ now-first)
+
+    pub copy-turn :
+        sharesFrom d (set hs j x) (set ys j y) 0 (j + (1 - w / 2 ^ (x - 1) % 2)) ++ without w (sharesFrom d hs₀ ys₀ (i + 1) (m - (i + 1))) ≡ ts
+    copy-turn =
+        let b = w / 2 ^ (x - 1) % 2 in
+        let o : i + 1 ≡ suc i = omega arith in
+        ap (λ (z : ℕ). sharesFrom d (set hs j x) (set ys j y) 0 (j + (1 - b)) ++ without w (sharesFrom d hs₀ ys₀ z left)) o
+        ∙ go b (ap (λ (s : Share). w / 2 ^ (s .holder - 1) % 2) (sym is)) (ℕ-discrete b 0) (omega arith)
+
+  -- the same in place: hs₀ and ys₀ are the arrays at the start
   module _ (w : ℕ) (hs₀ : List ℕ) (ys₀ : Rows) (m : ℕ) (hs : List ℕ) (ys : Rows) (i : ℕ) (h : i < m)
       (same : sharesFrom d hs ys i (m - i) ≡ sharesFrom d hs₀ ys₀ i (m - i)) where
     abbrev n : ℕ
@@ -103,34 +147,7 @@ module _ (d : ℕ) where
           ∙ tail-eq-of-cons-eq same-cons
           ∙ ap (λ (x : ℕ). sharesFrom d hs₀ ys₀ x n) (sym one)
 
-      module _ (lh : i < length hs) (ly : i < length ys) (ts : List Share)
-          (e : sharesFrom d hs ys 0 j ++ without w (sharesFrom d hs₀ ys₀ i (m - i)) ≡ ts) where
-        abbrev rest : List Share
-        rest = without w (sharesFrom d hs₀ ys₀ (suc i) n)
-
-        now-first : sharesFrom d hs ys 0 j ++ without w (shareAt d hs₀ ys₀ i ∷ sharesFrom d hs₀ ys₀ (suc i) n) ≡ ts
-        now-first =
-            ap (λ (l : List Share). sharesFrom d hs ys 0 j ++ without w l) (sym (ap (sharesFrom d hs₀ ys₀ i) ahead ∙ from-cons hs₀ ys₀ i n)) ∙ e
-
-        go : (b : ℕ) → w / 2 ^ (getD hs₀ i 0 - 1) % 2 ≡ b → Dec (b ≡ 0) → b < 2 → sharesFrom d hs′ ys′ 0 (j + (1 - b)) ++ rest ≡ ts
-        go b x (yes z) q =
-            let o : j + (1 - b) ≡ suc j = omega arith in
-            rw (o, from-set-at hs ys j (getD hs i 0) (getD ys i []) (omega arith) (omega arith), same-share)
-            (append-assoc (sharesFrom d hs ys 0 j) (shareAt d hs₀ ys₀ i ∷ []) rest
-            ∙ ap (λ (l : List Share). sharesFrom d hs ys 0 j ++ l)
-            (sym (without-keeps w (shareAt d hs₀ ys₀ i) (sharesFrom d hs₀ ys₀ (suc i) n) (x ∙ z)))
-            ∙ now-first)
-        go b x (no z) q =
-            let o : j + (1 - b) ≡ j = omega arith in
-            let y : b ≡ 1 = omega arith in
-            rw (o, from-set-after hs ys j (getD hs i 0) (getD ys i []) 0 j (omega arith))
-            (ap (λ (l : List Share). sharesFrom d hs ys 0 j ++ l)
-            (sym (without-drops w (shareAt d hs₀ ys₀ i) (sharesFrom d hs₀ ys₀ (suc i) n) (x ∙ y)))
-            ∙ now-first)
-
-        pub drop-turn :
-            sharesFrom d hs′ ys′ 0 (j + (1 - w / 2 ^ (getD hs i 0 - 1) % 2)) ++ without w (sharesFrom d hs₀ ys₀ (i + 1) (m - (i + 1))) ≡ ts
-        drop-turn =
-            let b = w / 2 ^ (getD hs i 0 - 1) % 2 in
-            ap (λ (x : ℕ). sharesFrom d hs′ ys′ 0 (j + (1 - b)) ++ without w (sharesFrom d hs₀ ys₀ x n)) one
-            ∙ go b (ap (λ (x : ℕ). w / 2 ^ (x - 1) % 2) (sym same-holder)) (ℕ-discrete b 0) (omega arith)
+      pub drop-turn : i < length hs → i < length ys → (ts : List Share) →
+          sharesFrom d hs ys 0 j ++ without w (sharesFrom d hs₀ ys₀ i (m - i)) ≡ ts →
+          sharesFrom d hs′ ys′ 0 (j + (1 - w / 2 ^ (getD hs i 0 - 1) % 2)) ++ without w (sharesFrom d hs₀ ys₀ (i + 1) (m - (i + 1))) ≡ ts
+      drop-turn lh ly ts e = copy-turn w hs₀ ys₀ m i h hs ys j (getD hs i 0) (getD ys i []) same-share (omega arith) (omega arith) ts e

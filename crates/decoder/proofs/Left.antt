@@ -31,7 +31,6 @@ use Rattle.decoder.proofs.Rows.{shaped-rows}
 pub record Left (k d t m : ℕ) (p : Polynomial) (hs : List ℕ) (ys r : Rows) : Type 0 where
   pub shaped : Shaped r
   pub holders-six : Holders 6 (sharesOf 6 m hs r)
-  pub sized-six : Sized 6 (sharesOf 6 m hs r)
   pub set : errorSet 64 6 [] (sharesOf 6 m hs r) ≡ errorSet k d p (sharesOf d m hs ys)
   pub bits : bitsOfAll (sharesOf 6 m hs r) ≡ bitsOfAll (map (left k d p) (sharesOf d m hs ys))
   pub is : sharesOf d m hs r ≡ map (left k d p) (sharesOf d m hs ys)
@@ -92,9 +91,6 @@ module _ (k d t m : ℕ) (dl : 2 ≤ d) (dh : d ≤ 6) (hs : List ℕ) (ys q old
       record {
         shaped = shaped-left;
         holders-six = rw is-six (holders-reword (λ s. held d (residue k d P s)) 6 ss holders-in-six);
-        sized-six = rw is-six
-            (all-reword (λ s. held d (residue k d P s)) (λ (s : Share). length (s .words) ≡ 6) ss
-            (all-map (λ s l. held-length d (residue k d P s) (length-left s l) dh) ss words));
         set = ap (errorSet 64 6 []) is-six ∙ left-set d dl dh k t P (th .0) ss w;
         bits = ap bitsOfAll is-six ∙ left-bits d dl dh k t P (th .0) ss w;
         is = is-left;

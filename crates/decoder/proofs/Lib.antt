@@ -1,3 +1,4 @@
+pub mod Answered
 pub mod Arrays
 pub mod Collected
 pub mod Compared
@@ -7,5 +8,6 @@ pub mod Left
 pub mod LevelFound
 pub mod Lowest
 pub mod Rows
+pub mod Positions
 pub mod Rounds
 pub mod WideDropped

@@ -4,14 +4,11 @@ use mathlib.Core.Path.{_≡_, refl, sym, _∙_, ap, ap₂}
 use mathlib.Core.Bool.{true, _&&_}
 use mathlib.Core.List.{List, [], _∷_, _++_, map}
 use Prim.Native.Nat.{ℕ, zero, suc, _+_, _*_, _-_, _/_, _%_, _^_, _≤_, _<_}
-use native.Mathlib.Nat.{mod-lt, div-one, div-div-eq-div-mul, pow-succ', pow-suc, pow-le-pow-right, zero-div}
-use native.Mathlib.Numerals.{add-one}
-use native.Mathlib.Decide.{decLe}
+use native.Mathlib.Nat.{pow-le-pow-right, zero-div}
 use native.Mathlib.Omega.{arith}
-use lib.Bits.{bitOr, or-zero-l, or-zero-r, or-lt, or-shr, or-mod, or-add-and, and-le-l, and-le-r}
-use lib.Count.{trailingZeros, under}
+use lib.Bits.{bitOr, bitXor, or-zero-l, or-zero-r, or-lt, xor-zero-r}
 use lib.Dec.{lit<}
-use lib.Pow.{pow-pos, shr-lt, split}
+use lib.Pow.{pow-pos}
 use lib.ListN.{length, take, getD}
 use lib.Seq.{getD-take}
 use Rattle.words.specs.Word.{inWidth, allInWidth}
@@ -21,21 +18,12 @@ use Rattle.galois.specs.Element.{Element, zeroE, held}
 use Rattle.galois.proofs.Zip.{six-words}
 use Rattle.galois.proofs.Held.{zeros-after, held-same, held-length}
 use Rattle.codewords.specs.Codeword.{Share, Polynomial}
+use Rattle.codewords.specs.Comparison.{gap}
 use Rattle.codewords.specs.Residue.{residue, left, bitOf, AgreeBelow}
 use Rattle.codewords.specs.WellFormed.{IsElement}
+use Rattle.codewords.proofs.Compared.{or-zero, or-below, or-clear, trailing, bit-room}
 use Rattle.decoder.specs.Found.{lowestBit}
 use Rattle.decoder.specs.Residues.{bitsOf, bitsOfAll}
-
--- two numbers together: zero, below a bit, and at a bit
-or-zero : (a b : ℕ) → bitOr a b ≡ 0 → (a ≡ 0) × (b ≡ 0)
-or-zero a b h = (omega (arith, or-add-and a b, and-le-r a b), omega (arith, or-add-and a b, and-le-l a b))
-
-or-below : (a b v : ℕ) → bitOr a b % 2 ^ v ≡ 0 → (a % 2 ^ v ≡ 0) × (b % 2 ^ v ≡ 0)
-or-below a b v h = or-zero (a % 2 ^ v) (b % 2 ^ v) (sym (or-mod a b v) ∙ h)
-
-or-clear : (a b v : ℕ) → a / 2 ^ v % 2 ≡ 0 → b / 2 ^ v % 2 ≡ 0 → bitOr a b / 2 ^ v % 2 ≡ 0
-or-clear a b v x y =
-    ap (λ n. n % 2) (or-shr a b v) ∙ or-mod (a / 2 ^ v) (b / 2 ^ v) 1 ∙ ap₂ bitOr x y ∙ or-zero-l 0
 
 -- an element's words together
 pub bits-zero : (a : Element) → bitsOf a ≡ 0 → a ≡ zeroE (length a)
@@ -47,6 +35,12 @@ pub zero-bits : (n : ℕ) → bitsOf (zeroE n) ≡ 0
 unfolding bitsOf
 zero-bits zero = refl
 zero-bits (suc n) = or-zero-l (bitsOf (zeroE n)) ∙ zero-bits n
+
+-- they are the bits at which it differs from zero
+pub bits-gap : (a : Element) → gap a (zeroE (length a)) ≡ bitsOf a
+unfolding gap bitsOf
+bits-gap [] = refl
+bits-gap (w ∷ a) = ap₂ bitOr (xor-zero-r w) (bits-gap a)
 
 bits-below : (v : ℕ) (a : Element) → bitsOf a % 2 ^ v ≡ 0 → All (λ w. w % 2 ^ v ≡ 0) a
 unfolding bitsOf
@@ -91,45 +85,6 @@ width-six k d a h l =
     ap (inWidth k)
     (six-bits (held d a) (ap length (held-same d a (take d a) refl l) ∙ held-length d (take d a) l h) ∙ bits-held d a h)
     ∙ bits-in-width k (take d a)
-
-pub bits-six : (u : Element) → length (take 6 u) ≡ 6 → sixBits u ≡ bitsOf (take 6 u)
-bits-six u h = rw (← at 0 (lit< tt), ← at 1 (lit< tt), ← at 2 (lit< tt), ← at 3 (lit< tt), ← at 4 (lit< tt), ← at 5 (lit< tt)) (six-bits (take 6 u) h)
-  where
-    at : (i : ℕ) → i < 6 → getD (take 6 u) i 0 ≡ getD u i 0
-    at i l = getD-take 6 u i 0 l
-
--- the lowest bit of a number
-pub trailing : (m n : ℕ) → 0 < n → n < 2 ^ m → (n % 2 ^ trailingZeros m n ≡ 0) × (n / 2 ^ trailingZeros m n % 2 ≡ 1)
-unfolding trailingZeros
-trailing zero n p h = absurd (omega arith)
-trailing (suc m) n p h = go (n % 2) refl (mod-lt n (lit< tt)) (λ l. trailing m (n / 2) l (shr-lt m 1 (rw add-one h)))
-  where
-    up : (z : ℕ) → n / 2 ^ suc z ≡ n / 2 / 2 ^ z
-    up z = sym (div-div-eq-div-mul n 2 (2 ^ z) ∙ ap (λ (m : ℕ). n / m) (sym (pow-succ' 2 z)))
-
-    go : (b : ℕ) → n % 2 ≡ b → b < 2 →
-        (0 < n / 2 → (n / 2 % 2 ^ trailingZeros m (n / 2) ≡ 0) × (n / 2 / 2 ^ trailingZeros m (n / 2) % 2 ≡ 1)) →
-        (n % 2 ^ under b (trailingZeros m (n / 2)) ≡ 0) × (n / 2 ^ under b (trailingZeros m (n / 2)) % 2 ≡ 1)
-    go zero e l r =
-        let z = trailingZeros m (n / 2) in
-        let s = r (omega arith) in
-        let x : n / 2 / 2 ^ z * 2 ^ z + n / 2 % 2 ^ z ≡ n / 2 = split (n / 2) z in
-        let y : n / 2 ^ suc z * 2 ^ suc z + n % 2 ^ suc z ≡ n = split n (suc z) in
-        let w : n / 2 ^ suc z * 2 ^ suc z ≡ 2 * (n / 2 / 2 ^ z * 2 ^ z) = rw (up z, pow-suc 2 z) (omega arith) in
-        (omega (arith, x, y, w, s .0), rw (up z) (s .1))
-    go (suc zero) e l r = (omega arith, rw (div-one) e)
-    go (suc (suc b)) e l r = absurd (omega arith)
-
--- below its width
-bit-room : (k n v : ℕ) → n < 2 ^ k → n / 2 ^ v % 2 ≡ 1 → v < k
-bit-room k n v h b = go (decLe k v)
-  where
-    go : Dec (k ≤ v) → v < k
-    go (no l) = omega arith
-    go (yes l) =
-        let p : 2 ^ k ≤ 2 ^ v = pow-le-pow-right (omega arith) l in
-        let z : n / 2 ^ v ≡ 0 = native.Mathlib.Nat.div-eq-of-lt (omega (arith, p)) in
-        absurd (omega (arith, ap (λ x. x % 2) z))
 
 -- all shares together
 module _ (k d : ℕ) (p : Polynomial) where

@@ -1,6 +1,7 @@
 -- What holds before each round of the search: the codeword asked for, with its error set, is that of the shares still in, with the holders
 -- dropped so far added to its error set (`same`). It holds at the start; a level that names some of the wrong holders keeps it and drops
--- at least one share, and any other ends the search, with the codeword or with none (`round`). Assumes nothing.
+-- at least one share, and any other ends the search, with the codeword or with none (`round`). What a first round drops can be left out
+-- (`left-out`). Assumes nothing.
 use mathlib.Core.Path.{_≡_, refl, sym, _∙_, ap}
 use mathlib.Core.Bool.{Bool, true, false}
 use mathlib.Core.List.{List, [], _∷_, map}
@@ -22,6 +23,7 @@ use Rattle.codewords.proofs.Unique.{codeword-sound, codeword-complete}
 use Rattle.codewords.proofs.Without.{holders-without, rising-without, in-width-without, tally, errorSet-tally, tally-reword, tally-le, tally-without}
 use Rattle.codewords.proofs.Jump.{bit-differs-at, ones-at, enough-without, jump-none, jump-with, progress}
 use Rattle.decoder.specs.Found.{lowestBit, levelFound}
+use Rattle.decoder.specs.LeftOut.{LeftOut}
 use Rattle.decoder.specs.Residues.{Through}
 use Rattle.decoder.specs.declared.Found.{Found}
 use Rattle.decoder.specs.declared.Found.the-variants.{Wrong, Nothing}
@@ -212,3 +214,26 @@ module _ (d : ℕ) (dl : 2 ≤ d) (dh : d ≤ 6) (k t e₀ : ℕ) (ss₀ : List 
 
       pub round : k ≤ 64 → (result got : Found) → result ≡ levelFound k d t e P ss → result ≡ got → Round k d t e₀ ss₀ e w ss q got
       round kh result got x y = rw (sym y ∙ x) (by-level k d t e P ss (Round k d t e₀ ss₀ e w ss q) ends (nothing kh) (jumped kh))
+
+  -- the first round
+  pub left-out : (w : ℕ) → Jumped k d t e₀ ss₀ e₀ 0 ss₀ w → LeftOut k d t e₀ ss₀ w
+  left-out w j = record { few = j .within; width = n .width; enough = n .enough; same = same; both = both }
+    where
+      rs : List Share
+      rs = without w ss₀
+
+      e : ℕ
+      e = e₀ - ones w
+
+      n : Sought k d t e₀ ss₀ e (0 + w) rs
+      n = j .next
+
+      same : codeword k d t e₀ ss₀ ≡ codeword k d t e rs
+      same = go (codeword k d t e rs) refl
+        where
+          go : (o : Option Polynomial) → codeword k d t e rs ≡ o → codeword k d t e₀ ss₀ ≡ o
+          go none x = found-none e (0 + w) rs n x
+          go (some p) x = found-some e (0 + w) rs n p x .0
+
+      both : (p : Polynomial) → codeword k d t e₀ ss₀ ≡ some p → errorSet k d p ss₀ ≡ w + errorSet k d p rs
+      both p x = found-some e (0 + w) rs n p (sym same ∙ x) .1 ∙ ap (λ u. u + errorSet k d p rs) (zero-add w)

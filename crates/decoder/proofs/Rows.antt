@@ -8,7 +8,7 @@ use native.Mathlib.Numerals.{add-one}
 use native.Mathlib.Omega.{arith}
 use lib.ListN.{length, take, getD, set, replicate, length-map, List·getD-map, getD-replicate, replicate-append-replicate}
 use lib.Pow.{pow-lt}
-use lib.Seq.{paste, take-suc-set, take-set-lt, take-take, map-set-same, take-paste, ext-getD}
+use lib.Seq.{paste, take-suc, take-suc-set, take-set-lt, take-take, map-set-same, take-paste, ext-getD}
 use Rattle.words.proofs.Fill.{fill-next, fill-ahead}
 use Rattle.galois.specs.Element.{Element, reduce}
 use Rattle.galois.proofs.Narrow.{reduce-zeros}
@@ -38,6 +38,15 @@ shaped-rows p l h =
     (λ i b.
     let c : i < 64 = rw n at b in
     List·getD-map length p i [] ∙ h i c ∙ sym (getD-replicate 64 i 6 0 c))
+
+-- copying
+pub copy-turn : (p q : Rows) (i : ℕ) → i < length p → i < length q → take i p ≡ take i q → take (i + 1) (set p i (getD q i [])) ≡ take (i + 1) q
+copy-turn p q i h g e =
+    ap (λ n. take n (set p i (getD q i []))) (add-one i)
+    ∙ take-suc-set p i (getD q i []) h
+    ∙ ap (λ (r : Rows). r ++ (getD q i [] ∷ [])) e
+    ∙ sym (take-suc q i [] g)
+    ∙ ap (λ n. take n q) (sym (add-one i))
 
 -- clearing
 pub clear-turn : (p : Rows) (i : ℕ) → i < length p → take i p ≡ replicate i zeroRow → take (i + 1) (set p i zeroRow) ≡ replicate (i + 1) zeroRow

@@ -1,3 +1,4 @@
 pub mod Decoded
 pub mod Found
+pub mod LeftOut
 pub mod Residues

@@ -2,21 +2,24 @@
 // differ from it. The polynomial through the first t + 1 shares is the one if few enough of the others differ from it. If not, one decoding
 // over the field, at the lowest bit at which any share differs from it, names shares that differ from every codeword; they are dropped, and
 // the search goes on among the others with as much less to allow. Shares with a wide word differ from every polynomial, and are dropped first.
+// The caller's shares stay as they are: it is from copies that any are dropped, and where none has to be nothing is copied.
 ghost use mathlib.Core.Path.{_≡_};
 ghost use mathlib.Core.Bool.{true};
 ghost use mathlib.Core.List.{[], _∷_};
 ghost use Prim.Native.Nat.{ℕ, suc, _+_, _*_, _≤_, _<_};
 ghost use lib.ListN.{length, take, getD, replicate};
 ghost use Rattle.polynomial.specs.Rows.{Shaped, coefs, reduceRows};
-ghost use Rattle.codewords.specs.Codeword.{wideSet, errorSet, codeword};
-ghost use Rattle.codewords.specs.Opening.{wrongOf, fromCodeword, answerTo, openingIn};
+ghost use Rattle.codewords.specs.Codeword.{wideSet, errorSet, comparison, positions, codeword};
+ghost use Rattle.codewords.specs.Comparison.{positionOf};
+ghost use Rattle.codewords.specs.Opening.{wrongOf, lowestRoom, fromCodeword, answerTo, openingIn};
 ghost use Rattle.codewords.specs.Residue.{without};
 ghost use Rattle.codewords.specs.WellFormed.{InWidth, Rising, Holders};
-ghost use Rattle.level.specs.Shares.{sharesOf, Sized};
+ghost use Rattle.level.specs.Shares.{share, sharesOf, Sized};
 ghost use Rattle.words.specs.Params.{paramsOk};
 ghost use Rattle.words.specs.Refusal.{kept};
 ghost use Rattle.decoder.specs.Decoded.{Ordered};
 ghost use Rattle.decoder.specs.Found.{levelFound, foundFault, roundFault};
+ghost use Rattle.decoder.specs.LeftOut.{LeftOut};
 ghost use Rattle.decoder.specs.Residues.{Through, bitsOfAll};
 use level::Level;
 
@@ -41,6 +44,18 @@ fn clear_rows(n: usize, p: &mut [[u64; 6]; 64])
     let mut i = 0;
     while i < n {
         p[i] = [0; 6];
+        i += 1;
+    }
+}
+
+// The first n rows of q, copied.
+fn copy_rows(n: usize, q: &[[u64; 6]; 64], p: &mut [[u64; 6]; 64])
+    requires { ⌜ (n ≤ 64) × Shaped (now q) × Shaped (now p) ⌝ }
+    ensures { λ _. ⌜ (take n (now (p .exit)) ≡ take n (now (q .entry))) × Shaped (now (p .exit)) ⌝ }
+{
+    let mut i = 0;
+    while i < n {
+        p[i] = q[i];
         i += 1;
     }
 }
@@ -87,7 +102,7 @@ fn interpolate(
 
 // The shares of which something is left: those that differ from zero, the polynomial with no coefficients.
 fn compare(m: usize, hs: &[u64; 63], rest: &[[u64; 6]; 64]) -> Differing
-    requires { ⌜ (m ≤ 63) × Holders 6 (sharesOf 6 m (now hs) (now rest)) × Sized 6 (sharesOf 6 m (now hs) (now rest)) ⌝ }
+    requires { ⌜ (m ≤ 63) × Holders 6 (sharesOf 6 m (now hs) (now rest)) × Shaped (now rest) ⌝ }
     ensures { λ r. ⌜ (r .set ≡ errorSet 64 6 [] (sharesOf 6 m (now (hs .entry)) (now (rest .entry))))
         × (r .bits ≡ bitsOfAll (sharesOf 6 m (now (hs .entry)) (now (rest .entry)))) ⌝ }
 {
@@ -96,8 +111,7 @@ fn compare(m: usize, hs: &[u64; 63], rest: &[[u64; 6]; 64]) -> Differing
     let mut i = m;
     while 0 < i {
         i -= 1;
-        let u = rest[i];
-        let b = u[0] | (u[1] | (u[2] | (u[3] | (u[4] | u[5]))));
+        let b = codewords::gap(rest[i], [0; 6]);
         bits = bits | b;
         if b != 0 {
             set = set | (1u64 << (hs[i] - 1));
@@ -120,6 +134,33 @@ fn drop_wrong(w: u64, m: usize, hs: &mut [u64; 63], ys: &mut [[u64; 6]; 63]) -> 
         let x = hs[i];
         hs[j] = x;
         ys[j] = ys[i];
+        j += 1 - ((w >> (x - 1)) % 2) as usize;
+        i += 1;
+    }
+    j
+}
+
+// The same out of place: the shares of the other holders, in order, go to the front of the second arrays. Returns how many they are.
+fn copy_others(
+    w: u64,
+    m: usize,
+    hs: &[u64; 63],
+    ys: &[[u64; 6]; 63],
+    holders: &mut [u64; 63],
+    shares: &mut [[u64; 6]; 63],
+) -> usize
+    requires { ⌜ (m ≤ 63) × (length (now hs) ≡ 63) × (length (now ys) ≡ 63) × (length (now holders) ≡ 63) × (length (now shares) ≡ 63)
+        × ((i : ℕ) → i < m → (1 ≤ getD (now hs) i 0) × (getD (now hs) i 0 ≤ 63)) ⌝ }
+    ensures { λ r. ⌜ ((d : ℕ) → sharesOf d r (now (holders .exit)) (now (shares .exit))
+        ≡ without w (sharesOf d m (now (hs .entry)) (now (ys .entry))))
+        × (r ≤ m) × (length (now (holders .exit)) ≡ 63) × (length (now (shares .exit)) ≡ 63) ⌝ }
+{
+    let mut j = 0;
+    let mut i = 0;
+    while i < m {
+        let x = hs[i];
+        holders[j] = x;
+        shares[j] = ys[i];
         j += 1 - ((w >> (x - 1)) % 2) as usize;
         i += 1;
     }
@@ -160,6 +201,33 @@ fn decode_level(
     Found::Wrong(w, false)
 }
 
+// One round: the polynomial through the first t + 1 shares, and what one level gives for it. The rows are room for interpolation and for what the
+// polynomial leaves of the shares, and then hold the polynomial. It is made in an array of the round's own: with a lent one an opening took 2 to 3 %
+// more instructions.
+fn round(
+    k: u64,
+    d: usize,
+    t: usize,
+    m: usize,
+    hs: &[u64; 63],
+    ys: &[[u64; 6]; 63],
+    e: u64,
+    rows: &mut [[u64; 6]; 64],
+) -> Found
+    requires { ⌜ ((1 ≤ k) × (k ≤ 64)) × ((2 ≤ d) × (d ≤ 6)) × (t ≤ 62) × (m ≤ 63) × (suc t + 2 * e ≤ m)
+        × Holders d (sharesOf d m (now hs) (now ys)) × InWidth k d (sharesOf d m (now hs) (now ys)) × Shaped (now rows) ⌝ }
+    ensures through { λ _. ⌜ Through k d t (sharesOf d (suc t) (now (hs .entry)) (now (ys .entry))) (now (rows .exit)) ⌝ }
+    ensures found { λ r. ⌜ r ≡ levelFound k d t e (coefs d (suc t) (now (rows .exit))) (sharesOf d m (now (hs .entry)) (now (ys .entry))) ⌝ }
+    ensures shaped { λ _. ⌜ Shaped (now (rows .exit)) ⌝ }
+{
+    let mut q = [[0u64; 6]; 64];
+    interpolate(k, d, t, hs, ys, &mut q, rows);
+    clear_rows(t + 1, rows);
+    let found = decode_level(k, d, q, t, m, hs, ys, rows, e);
+    copy_rows(t + 1, &q, rows);
+    found
+}
+
 // What shares open to: the fault 5, 6 or 0, and the set of the wrong holders, bit i - 1 for holder i, which is empty where there is a fault.
 // Where there is none the polynomial is in lent rows.
 pub struct Opened {
@@ -167,8 +235,8 @@ pub struct Opened {
     pub wrong: u64,
 }
 
-// The search: `count` shares are still in, of which `bound` may differ; those of the holders in `wrong` are out. The rows are room
-// for interpolation, and then for what the polynomial leaves of the shares; at the end they hold the codeword.
+// The search: `count` shares are still in, of which `bound` may differ; those of the holders in `wrong` are out, and the others move up in the
+// lent arrays. The rows are room for interpolation, and then for what the polynomial leaves of the shares; at the end they hold the codeword.
 fn search(
     k: u64,
     d: usize,
@@ -192,11 +260,8 @@ fn search(
     let mut wrong: u64 = 0;
     let mut bound = e;
     let mut count = m;
-    let mut q = [[0u64; 6]; 64];
     loop {
-        interpolate(k, d, t, hs, ys, &mut q, rows);
-        clear_rows(t + 1, rows);
-        let got = decode_level(k, d, q, t, count, hs, ys, rows, bound);
+        let got = round(k, d, t, count, hs, ys, bound, rows);
         let Found::Wrong(w, all) = got else {
             return Opened {
                 fault: words::NO_CODEWORD,
@@ -205,13 +270,83 @@ fn search(
         };
         wrong += w;
         if all {
-            *rows = q;
             return Opened { fault: 0, wrong };
         }
         let errors = u64::count_ones(w) as u64;
         bound -= errors;
         count = drop_wrong(w, count, hs, ys);
     }
+}
+
+// The search without the shares of the holders in u, which are wrong for sure and use up the bound; what it gives is the answer for all shares.
+// They are dropped from copies: the lent arrays stay as they are, so that callers can compare the shares with the polynomial.
+fn search_without(
+    k: u64,
+    d: usize,
+    t: usize,
+    m: usize,
+    hs: &[u64; 63],
+    ys: &[[u64; 6]; 63],
+    u: u64,
+    e: u64,
+    rows: &mut [[u64; 6]; 64],
+) -> Opened
+    requires { ⌜ ((1 ≤ k) × (k ≤ 64)) × ((2 ≤ d) × (d ≤ 6)) × (t ≤ 62) × (m ≤ 63)
+        × Holders d (sharesOf d m (now hs) (now ys)) × Rising (sharesOf d m (now hs) (now ys))
+        × LeftOut k d t e (sharesOf d m (now hs) (now ys)) u
+        × (length (now hs) ≡ 63) × (length (now ys) ≡ 63) × Shaped (now rows) ⌝ }
+    ensures opening { λ r. ⌜ openingIn d t (r .fault) (now (rows .exit))
+        ≡ fromCodeword (codeword k d t e (sharesOf d m (now (hs .entry)) (now (ys .entry)))) ⌝ }
+    ensures wrong { λ r. ⌜ r .wrong ≡ wrongOf k d (sharesOf d m (now (hs .entry)) (now (ys .entry)))
+        (fromCodeword (codeword k d t e (sharesOf d m (now (hs .entry)) (now (ys .entry))))) ⌝ }
+    ensures shaped { λ _. ⌜ Shaped (now (rows .exit)) ⌝ }
+{
+    let mut holders = [0u64; 63];
+    let mut shares = [[0u64; 6]; 63];
+    let errors = u64::count_ones(u) as u64;
+    let count = copy_others(u, m, hs, ys, &mut holders, &mut shares);
+    let found = search(k, d, t, count, &mut holders, &mut shares, e - errors, rows);
+    if found.fault != 0 {
+        return found;
+    }
+    Opened {
+        fault: 0,
+        wrong: u + found.wrong,
+    }
+}
+
+// The search among shares with no wide word. The first round reads the lent arrays themselves; only if it drops shares and the search goes on
+// are they copied. So an opening that ends with this round, as one without a wrong share does, does not pay for copies.
+fn search_lent(
+    k: u64,
+    d: usize,
+    t: usize,
+    m: usize,
+    hs: &[u64; 63],
+    ys: &[[u64; 6]; 63],
+    e: u64,
+    rows: &mut [[u64; 6]; 64],
+) -> Opened
+    requires { ⌜ ((1 ≤ k) × (k ≤ 64)) × ((2 ≤ d) × (d ≤ 6)) × (t ≤ 62) × (m ≤ 63) × (suc t + 2 * e ≤ m)
+        × Holders d (sharesOf d m (now hs) (now ys)) × Rising (sharesOf d m (now hs) (now ys)) × InWidth k d (sharesOf d m (now hs) (now ys))
+        × (length (now hs) ≡ 63) × (length (now ys) ≡ 63) × Shaped (now rows) ⌝ }
+    ensures opening { λ r. ⌜ openingIn d t (r .fault) (now (rows .exit))
+        ≡ fromCodeword (codeword k d t e (sharesOf d m (now (hs .entry)) (now (ys .entry)))) ⌝ }
+    ensures wrong { λ r. ⌜ r .wrong ≡ wrongOf k d (sharesOf d m (now (hs .entry)) (now (ys .entry)))
+        (fromCodeword (codeword k d t e (sharesOf d m (now (hs .entry)) (now (ys .entry))))) ⌝ }
+    ensures shaped { λ _. ⌜ Shaped (now (rows .exit)) ⌝ }
+{
+    let got = round(k, d, t, m, hs, ys, e, rows);
+    let Found::Wrong(w, all) = got else {
+        return Opened {
+            fault: words::NO_CODEWORD,
+            wrong: 0,
+        };
+    };
+    if all {
+        return Opened { fault: 0, wrong: w };
+    }
+    search_without(k, d, t, m, hs, ys, w, e, rows)
 }
 
 // The holders whose shares have a wide word.
@@ -247,14 +382,14 @@ fn wide_holders(k: u64, d: usize, m: usize, hs: &[u64; 63], ys: &[[u64; 6]; 63])
     }
 }
 
-// The search without the shares that have a wide word, which use up the bound: the same, of shares of any words.
+// The search among shares of any words. Those with a wide word differ from every polynomial, so they are left out from the start.
 fn search_in_width(
     k: u64,
     d: usize,
     t: usize,
     m: usize,
-    hs: &mut [u64; 63],
-    ys: &mut [[u64; 6]; 63],
+    hs: &[u64; 63],
+    ys: &[[u64; 6]; 63],
     e: u64,
     rows: &mut [[u64; 6]; 64],
 ) -> Opened
@@ -266,7 +401,6 @@ fn search_in_width(
     ensures wrong { λ r. ⌜ r .wrong ≡ wrongOf k d (sharesOf d m (now (hs .entry)) (now (ys .entry)))
         (fromCodeword (codeword k d t e (sharesOf d m (now (hs .entry)) (now (ys .entry))))) ⌝ }
     ensures shaped { λ _. ⌜ Shaped (now (rows .exit)) ⌝ }
-    ensures room { λ _. ⌜ (length (now (hs .exit)) ≡ 63) × (length (now (ys .exit)) ≡ 63) ⌝ }
 {
     let wide = wide_holders(k, d, m, hs, ys);
     let errors = u64::count_ones(wide) as u64;
@@ -276,25 +410,16 @@ fn search_in_width(
             wrong: 0,
         };
     }
-    let count = drop_wrong(wide, m, hs, ys);
-    let found = search(k, d, t, count, hs, ys, e - errors, rows);
-    if found.fault != 0 {
-        return found;
-    }
-    Opened {
-        fault: 0,
-        wrong: wide + found.wrong,
-    }
+    search_without(k, d, t, m, hs, ys, wide, e, rows)
 }
 
 // What m shares under rising holders open to with the error bound e, of any size: the polynomial in `rows`, if there is no fault. `narrow` tells
-// that no word is wide, which saves looking. The arrays of holders and shares are room to work in: nothing is promised of them after but how
-// long they are.
+// that no word is wide, which saves looking. The holders and shares stay as they are, so that a caller can compare them with the polynomial.
 pub fn decode(
     p: words::Params,
     m: usize,
-    holders: &mut [u64; 63],
-    shares: &mut [[u64; 6]; 63],
+    holders: &[u64; 63],
+    shares: &[[u64; 6]; 63],
     narrow: bool,
     e: u64,
     rows: &mut [[u64; 6]; 64],
@@ -308,7 +433,6 @@ pub fn decode(
     ensures wrong { λ r. ⌜ r .wrong ≡ wrongOf (p .k) (p .d) (sharesOf (p .d) m (now (holders .entry)) (now (shares .entry)))
         (answerTo p e (sharesOf (p .d) m (now (holders .entry)) (now (shares .entry)))) ⌝ }
     ensures shaped { λ _. ⌜ Shaped (now (rows .exit)) ⌝ }
-    ensures room { λ _. ⌜ (length (now (holders .exit)) ≡ 63) × (length (now (shares .exit)) ≡ 63) ⌝ }
 {
     if m <= p.t {
         return Opened {
@@ -323,29 +447,104 @@ pub fn decode(
         };
     }
     if narrow {
-        return search(p.k, p.d, p.t, m, holders, shares, e, rows);
+        return search_lent(p.k, p.d, p.t, m, holders, shares, e, rows);
     }
     search_in_width(p.k, p.d, p.t, m, holders, shares, e, rows)
 }
 
-// Hands out what is opened: the job's words, which are the free term's, into an output of d words, the wrong holders into one of one word, and
-// the fault; the outputs stay where there is one.
+// Nobody has a position yet.
+fn clear_positions(lowest: &mut [u8])
+    ensures { λ _. ⌜ now (lowest .exit) ≡ replicate (length (now (lowest .entry))) 255 ⌝ }
+{
+    let mut i = 0;
+    while i < lowest.len() {
+        lowest[i] = codewords::NONE;
+        i += 1;
+    }
+}
+
+// The position of holder x's share: where it differs from the value of the polynomial in the rows, of degree at most t.
+fn position_by(k: u64, d: usize, t: usize, rows: &[[u64; 6]; 64], x: u64, words: [u64; 6]) -> u8
+    requires { ⌜ ((1 ≤ k) × (k ≤ 64)) × ((2 ≤ d) × (d ≤ 6)) × (t ≤ 62) × Shaped (now rows) ⌝ }
+    ensures { λ r. ⌜ r ≡ positionOf (comparison k d (coefs d (suc t) (now (rows .entry))) (share x (take d words))) ⌝ }
+{
+    let value = polynomial::eval_lent(k, d, rows, t + 1, x);
+    codewords::position(codewords::compare(ring::keep(d, words), value))
+}
+
+// The same, with code for each d.
+fn position_of(k: u64, d: usize, t: usize, rows: &[[u64; 6]; 64], x: u64, words: [u64; 6]) -> u8
+    requires { ⌜ ((1 ≤ k) × (k ≤ 64)) × ((2 ≤ d) × (d ≤ 6)) × (t ≤ 62) × Shaped (now rows) ⌝ }
+    ensures { λ r. ⌜ r ≡ positionOf (comparison k d (coefs d (suc t) (now (rows .entry))) (share x (take d words))) ⌝ }
+{
+    match d {
+        2 => position_by(k, 2, t, rows, x, words),
+        3 => position_by(k, 3, t, rows, x, words),
+        4 => position_by(k, 4, t, rows, x, words),
+        5 => position_by(k, 5, t, rows, x, words),
+        _ => position_by(k, 6, t, rows, x, words),
+    }
+}
+
+// The positions of the wrong holders: entry i - 1 of the output for holder i.
+pub fn lowest_bits(
+    p: words::Params,
+    m: usize,
+    holders: &[u64; 63],
+    shares: &[[u64; 6]; 63],
+    rows: &[[u64; 6]; 64],
+    wrong: u64,
+    lowest: &mut [u8],
+)
+    requires { ⌜ (paramsOk p ≡ true) × (m ≤ 63) × Ordered (p .n) (sharesOf (p .d) m (now holders) (now shares))
+        × Shaped (now rows) × (length (now lowest) ≡ lowestRoom)
+        × (wrong ≡ errorSet (p .k) (p .d) (coefs (p .d) (suc (p .t)) (now rows)) (sharesOf (p .d) m (now holders) (now shares))) ⌝ }
+    ensures { λ _. ⌜ now (lowest .exit) ≡ positions (p .k) (p .d) (coefs (p .d) (suc (p .t)) (now (rows .entry)))
+        (sharesOf (p .d) m (now (holders .entry)) (now (shares .entry))) ⌝ }
+{
+    clear_positions(lowest);
+    if wrong == 0 {
+        return;
+    }
+    let mut i = m;
+    while 0 < i {
+        i -= 1;
+        let x = holders[i];
+        if (wrong >> (x - 1)) % 2 == 1 {
+            lowest[(x - 1) as usize] = position_of(p.k, p.d, p.t, rows, x, shares[i]);
+        }
+    }
+}
+
+// Hands out what is opened from m shares: the job's words, which are the free term's, into an output of d words, the wrong holders into one of one
+// word, their positions into one of 64 bytes, and the fault; the outputs stay where there is one.
 pub fn hand_out(
-    d: usize,
+    p: words::Params,
+    m: usize,
+    holders: &[u64; 63],
+    shares: &[[u64; 6]; 63],
     opened: Opened,
     rows: &[[u64; 6]; 64],
     out: &mut [u64],
     wrong: &mut [u64],
+    lowest: &mut [u8],
 ) -> u8
-    requires { ⌜ ((2 ≤ d) × (d ≤ 6)) × Shaped (now rows) × (length (now out) ≡ d) × (length (now wrong) ≡ 1) ⌝ }
+    requires { ⌜ (paramsOk p ≡ true) × (m ≤ 63) × Ordered (p .n) (sharesOf (p .d) m (now holders) (now shares))
+        × Shaped (now rows) × (length (now out) ≡ p .d) × (length (now wrong) ≡ 1) × (length (now lowest) ≡ lowestRoom)
+        × (opened .fault ≡ 0
+        → opened .wrong ≡ errorSet (p .k) (p .d) (coefs (p .d) (suc (p .t)) (now rows)) (sharesOf (p .d) m (now holders) (now shares))) ⌝ }
     ensures fault { λ r. ⌜ r ≡ opened .fault ⌝ }
-    ensures out { λ _. ⌜ now (out .exit) ≡ kept (opened .fault) (now (out .entry)) (take d (getD (now (rows .entry)) 0 [])) ⌝ }
+    ensures out { λ _. ⌜ now (out .exit) ≡ kept (opened .fault) (now (out .entry)) (take (p .d) (getD (now (rows .entry)) 0 [])) ⌝ }
     ensures wrong { λ _. ⌜ now (wrong .exit) ≡ kept (opened .fault) (now (wrong .entry)) (opened .wrong ∷ []) ⌝ }
+    ensures lowest { λ _. ⌜ now (lowest .exit) ≡ kept (opened .fault) (now (lowest .entry))
+        (positions (p .k) (p .d) (coefs (p .d) (suc (p .t)) (now (rows .entry)))
+        (sharesOf (p .d) m (now (holders .entry)) (now (shares .entry)))) ⌝ }
 {
     if opened.fault != 0 {
         return opened.fault;
     }
-    ring::store(d, out, 0, rows[0]);
+    ring::store(p.d, out, 0, rows[0]);
     wrong[0] = opened.wrong;
+    lowest_bits(p, m, holders, shares, rows, opened.wrong, lowest);
     0
 }

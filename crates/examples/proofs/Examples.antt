@@ -1,12 +1,13 @@
--- The marked examples of paper 01 and the sample of paper 02, K2, hold: one theorem over the whole table. Assumes nothing.
+-- The marked examples of paper 01 and the samples of paper 02, K2 and K4, hold: one theorem over the whole table. Assumes nothing.
 use mathlib.Core.Path.{_≡_, refl}
 use mathlib.Core.List.{map}
+use lib.Count.{trailingZeros}
 use Rattle.words.specs.Word.{addW, subW, negW, mulW, allInWidth}
 use Rattle.words.specs.Params.{paramsOk}
 use Rattle.words.specs.Refusal.{first, unless, firstOf}
 use Rattle.words.specs.Signed.{meaning, signedOf}
 use Rattle.galois.specs.Element.{lower, product, inverse}
-use Rattle.codewords.specs.Codeword.{errorSet}
+use Rattle.codewords.specs.Codeword.{errorSet, positions}
 use Rattle.sharing.specs.Dealing.{dealt}
 use Rattle.sharing.specs.Opening.{lent, opening}
 use Rattle.records.specs.Num.{part, leNum, leAt, leBytes}
@@ -26,7 +27,7 @@ use Rattle.mending.specs.Report.{changesAt, changesFrom, reportOf}
 use Rattle.examples.specs.Examples.{answer, table}
 
 pub examples-hold : map (λ e. answer (e .asked)) table ≡ map (λ e. e .expected) table
-unfolding answer product inverse lower meaning addW subW negW mulW allInWidth paramsOk dealt opening lent errorSet
+unfolding answer product inverse lower meaning addW subW negW mulW allInWidth paramsOk dealt opening lent errorSet positions trailingZeros
     first unless firstOf part leNum leAt recordSize headKind headLen wordSize jobLenOf fileSize lenAt kindAt framed headingOf
     rangesOk holderOk sameParams belongs numOf headingFault jobFaultAt prevNum jobFault fileFaultAt
     placeAt prevHolder filesIn faultOfFile filesFault bundleFault jobAt

@@ -1,4 +1,4 @@
--- The marked examples of paper 01, "Bench examples", and the sample of paper 02, K2, as a table of questions with their answers. What is asked is what
+-- The marked examples of paper 01, "Bench examples", and the samples of paper 02, K2 and K4, as a table of questions with their answers. What is asked is what
 -- the contracts cite. Assumes nothing.
 use mathlib.Core.List.{List, [], _∷_, _++_}
 use Prim.Native.Nat.{ℕ, _-_, _^_}
@@ -53,7 +53,7 @@ answer (productOf k d a b) = words (product k (lower d) a b)
 answer (inverseOf k d a) = words (inverse k d a)
 answer (readingOf k w) = integer (meaning k w)
 answer (dealingOf p secret coefficients) = words (dealt p secret coefficients)
-answer (openingOf p hs ws e) = told p (lent (p .d) hs ws) (opening p hs ws e (p .d) 1)
+answer (openingOf p hs ws e) = told p (lent (p .d) hs ws) (opening p hs ws e (p .d) 1 64)
 answer (printedFor bs) = text (listingOf bs)
 answer (reportedFor bs) = text (reportOf bs)
 answer (mendedFrom bs) = bundle (mended bs)
@@ -118,8 +118,8 @@ table =
     ∷ record { asked = openingOf (bench 0) (1 ∷ 2 ∷ 3 ∷ []) (5 ∷ 2 ∷ 5 ∷ 2 ∷ 1 ∷ 2 ∷ []) 1; expected = opened 4 (5 ∷ 2 ∷ []) }
     -- M10: all agree modulo 2, and there is no codeword
     ∷ record { asked = openingOf (bench 0) (1 ∷ 2 ∷ 3 ∷ []) (5 ∷ 2 ∷ 1 ∷ 2 ∷ 7 ∷ 2 ∷ []) 1; expected = refused 6 }
-    -- M9 and M10 as the program prints them
-    ∷ record { asked = printedFor sample; expected = text (ascii "job state wrong words\n10 open 3 -3,2\n11 6 - -\n") }
+    -- M9 and M10 as the program prints them: "Job 10 of the sample becomes `10 open 3/2 -3,2`" (paper 02, K4)
+    ∷ record { asked = printedFor sample; expected = text (ascii "job state wrong words\n10 open 3/2 -3,2\n11 6 - -\n") }
     -- and what `mend` prints and writes for them: holder 3's share of job 10 becomes (5,2), and job 11 keeps its bytes
     ∷ record { asked = reportedFor sample; expected = text (ascii "10 holder 3\n11 refused 6\n") }
     ∷ record { asked = mendedFrom sample; expected = bundle (sampleWith 5) }

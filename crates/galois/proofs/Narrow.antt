@@ -20,6 +20,12 @@ unfolding addW
 add-narrow {j} {k} h x y = mod-narrow (x + y) j k h
 
 -- lists
+pub reduce-at : (k : ℕ) (a : Element) (j : ℕ) → getD (reduce k a) j 0 ≡ getD a j 0 % 2 ^ k
+unfolding reduce
+reduce-at k [] j = sym (zero-mod (2 ^ k))
+reduce-at k (x ∷ a) zero = refl
+reduce-at k (x ∷ a) (suc j) = reduce-at k a j
+
 reduce-zip : (j : ℕ) (f g : ℕ → ℕ → ℕ) → ((x y : ℕ) → f x y % 2 ^ j ≡ g x y) → (a b : Element) → reduce j (zip f a b) ≡ zip g a b
 unfolding zip reduce
 reduce-zip j f g e [] b = refl

@@ -10,8 +10,9 @@ use lib.Dec.{leb, ltb}
 use lib.ListN.{length, getD}
 use Rattle.words.specs.Refusal.{unless, LENGTH}
 use Rattle.words.proofs.Refusal.{first-holds, unless-holds}
-use Rattle.codewords.specs.Codeword.{errorSet}
+use Rattle.codewords.specs.Codeword.{errorSet, positions}
 use Rattle.codewords.specs.Opening.{Opening, declines, opens, faultOf, JobState}
+use Rattle.codewords.proofs.Positions.{positions-bytes}
 use Rattle.codewords.proofs.Value.{free-element}
 use Rattle.records.specs.Layout.{bodyAt}
 use Rattle.records.specs.Num.{Bytes}
@@ -65,8 +66,9 @@ line-length bs p b z = go (placeOpening bs p) refl
     go (opens q) e =
         let r = bundle-ranges bs (bundle-ok bs z) .book in
         let w = free-element (paramsOf bs .k) (paramsOf bs .d) (paramsOf bs .t) q (place-poly bs p q e) .0 in
-        open-length (numOf bs (jobAt bs 0 p)) (errorSet (paramsOf bs .k) (paramsOf bs .d) q (sharesAt bs p)) (paramsOf bs .k) (getD q 0 [])
-        number-lt (r .k-high) (omega (arith, w, r .d-high))
+        open-length (numOf bs (jobAt bs 0 p)) (errorSet (paramsOf bs .k) (paramsOf bs .d) q (sharesAt bs p))
+        (positions (paramsOf bs .k) (paramsOf bs .d) q (sharesAt bs p)) (paramsOf bs .k) (getD q 0 [])
+        number-lt (positions-bytes (paramsOf bs .k) (paramsOf bs .d) q (sharesAt bs p)) (r .k-high) (omega (arith, w, r .d-high))
 
 pub piece-fits : (bs : List ℕ) (i : ℕ) → Bytes bs → length (piece bs i) ≤ lineRoom
 unfolding piece

@@ -9,7 +9,7 @@ use lib.ListN.{length, take, getD}
 use Rattle.words.specs.Signed.{signedOf}
 use Rattle.words.specs.Word.{allInWidth}
 use Rattle.polynomial.specs.Rows.{Rows, Shaped, coefs}
-use Rattle.codewords.specs.Codeword.{Polynomial}
+use Rattle.codewords.specs.Codeword.{Polynomial, errorSet, positions}
 use Rattle.codewords.specs.Opening.{opens, wrongOf, openingIn}
 use Rattle.codewords.specs.WellFormed.{IsPoly}
 use Rattle.codewords.proofs.Opening.{handed, answer-poly}
@@ -53,7 +53,8 @@ module _ (bs : List ℕ) (p : ℕ) (h : Heading) (e : h ≡ bundleHeading bs) (n
 
     first-row : take (h .params .d) (getD rows 0 []) ≡ getD q 0 []
     first-row =
-        handed (h .params .k) (h .params .d) (h .params .t) (sharesAt bs p) 0 rows w (opens q) s refl (u ∙ ap (wrongOf (h .params .k) (h .params .d) (sharesAt bs p)) opened)
+        handed (h .params .k) (h .params .d) (h .params .t) (sharesAt bs p) 0 rows w (opens q) s refl
+        (u ∙ ap (wrongOf (h .params .k) (h .params .d) (sharesAt bs p)) opened)
         .secret []
 
     -- what writing an open line asks for
@@ -63,12 +64,18 @@ module _ (bs : List ℕ) (p : ℕ) (h : Heading) (e : h ≡ bundleHeading bs) (n
         ∙ ap (λ (x : Heading). allInWidth (x .params .k) (getD q 0 [])) e
         ∙ free-element (paramsOf bs .k) (paramsOf bs .d) (paramsOf bs .t) q (place-poly bs p q opened) .1
 
-    pub open-line : lineOf bs p ≡ openLine number w (readings (h .params .k) (h .params .d) (getD rows 0 []))
-    open-line =
+    -- what finding the positions asks for
+    pub set-is : w ≡ errorSet (h .params .k) (h .params .d) q (sharesAt bs p)
+    set-is = u ∙ ap (wrongOf (h .params .k) (h .params .d) (sharesAt bs p)) opened
+
+    pub open-line : (lowest : List ℕ) → lowest ≡ positions (h .params .k) (h .params .d) q (sharesAt bs p) →
+        lineOf bs p ≡ openLine number w lowest (readings (h .params .k) (h .params .d) (getD rows 0 []))
+    open-line lowest x =
         line-by
         ∙ ap (lineBy (h .params) (sharesAt bs p) number) opened
-        ∙ ap₂ (λ (x : ℕ) (ws : List ℕ). openLine number x (map (signedOf (h .params .k)) ws))
-        (sym (u ∙ ap (wrongOf (h .params .k) (h .params .d) (sharesAt bs p)) opened)) (sym first-row)
+        ∙ ap₂ (λ (y : ℕ) (ws : List ℕ). openLine number y (positions (h .params .k) (h .params .d) q (sharesAt bs p)) (map (signedOf (h .params .k)) ws))
+        (sym set-is) (sym first-row)
+        ∙ ap (λ (l : List ℕ). openLine number w l (readings (h .params .k) (h .params .d) (getD rows 0 []))) (sym x)
 
 -- a piece with nothing to write
 pub wrote-none : (old text : List ℕ) → text ≡ [] → (old ≡ written 0 text old) × (0 ≡ length text) × (0 ≤ lineRoom)

@@ -10,7 +10,7 @@ use lib.ListN.{length, getD, length-append}
 use Rattle.words.specs.Refusal.{kept}
 use Rattle.words.specs.Signed.{signedOf}
 use Rattle.words.specs.declared.Params.{Params}
-use Rattle.codewords.specs.Codeword.{Share, errorSet}
+use Rattle.codewords.specs.Codeword.{Share, errorSet, positions}
 use Rattle.codewords.specs.Opening.{Opening, declines, opens}
 use Rattle.bundle.specs.Bundle.{bundleHeading, paramsOf, numOf, jobAt, mostJobs}
 use Rattle.bundle.specs.declared.Accepted.{Accepted}
@@ -42,7 +42,7 @@ line-some bs p = go (paramsOf bs) (sharesAt bs p) (numOf bs (jobAt bs 0 p)) (pla
     go : (q : Params) (ss : List Share) (n : ℕ) (o : Opening) → 0 < length (lineBy q ss n o)
     go q ss n (declines c) = job-some n (decimal c) (joined []) (joined [])
     go q ss n (opens f) =
-        job-some n (ascii "open") (holdersText (errorSet (q .k) (q .d) f ss)) (wordsText (map (signedOf (q .k)) (getD f 0 [])))
+        job-some n (ascii "open") (holdersText (positions (q .k) (q .d) f ss) (errorSet (q .k) (q .d) f ss)) (wordsText (map (signedOf (q .k)) (getD f 0 [])))
 
 pub piece-some : (bs : List ℕ) (i : ℕ) → i < piecesIn bs → 0 < length (piece bs i)
 unfolding piece piecesIn

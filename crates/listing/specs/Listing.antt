@@ -7,7 +7,7 @@ use Rattle.words.specs.Faults.{lengthFault}
 use Rattle.words.specs.Refusal.{first, unless, LENGTH}
 use Rattle.words.specs.Signed.{signedOf}
 use Rattle.words.specs.declared.Params.{Params}
-use Rattle.codewords.specs.Codeword.{Share, errorSet}
+use Rattle.codewords.specs.Codeword.{Share, errorSet, positions}
 use Rattle.codewords.specs.Opening.{Opening, declines, opens}
 use Rattle.bundle.specs.Bundle.{numOf, jobAt, paramsOf, bundleHeading, bundleFault}
 use Rattle.fetch.specs.Fetch.{placeFault}
@@ -15,10 +15,11 @@ use Rattle.archive.specs.Archive.{sharesAt, placeOpening}
 use Rattle.text.specs.Text.{lineRoom, headLine, refusedLine, openLine, declinedLine}
 
 -- "Each job has a line: job number; `open` or the number 3, 5 or 6; wrong holders [..]; the signed words", and paper 02, K1: "Opening one job no longer
--- gives 3". The line of a job by its shares and what they open to
+-- gives 3", and K4: "the listing prints the holder, a slash and the position". The line of a job by its shares and what they open to
 abbrev pub lineBy : Params → List Share → ℕ → Opening → List ℕ
 lineBy p ss number (declines c) = declinedLine number c
-lineBy p ss number (opens q) = openLine number (errorSet (p .k) (p .d) q ss) (map (signedOf (p .k)) (getD q 0 []))
+lineBy p ss number (opens q) =
+    openLine number (errorSet (p .k) (p .d) q ss) (positions (p .k) (p .d) q ss) (map (signedOf (p .k)) (getD q 0 []))
 
 -- the line of the job at a place of a bundle that has no fault
 unfoldable pub lineOf : List ℕ → ℕ → List ℕ

@@ -34,16 +34,30 @@ pub fn put_line(bytes: &[u8], h: Heading, files: usize, place: usize, out: &mut 
         × (r ≡ length (lineOf (now (bytes .entry)) place)) × (r ≤ lineRoom) ⌝ }
 {
     let number = fetch::job_number(bytes, h, place);
+    let holders = archive::load_holders(bytes, h, files);
+    let mut shares = [[0u64; 6]; 63];
     let mut rows = [[0u64; 6]; 64];
-    let opened = archive::place_opening(bytes, h, files, place, &mut rows);
+    let opened = archive::place_opening(bytes, h, files, place, &holders, &mut shares, &mut rows);
     if opened.fault != 0 {
         return text::put_declined_line(out, 0, number, opened.fault);
     }
+    let p = h.params;
+    let mut lowest = [0u8; 64];
+    decoder::lowest_bits(
+        p,
+        files,
+        &holders,
+        &shares,
+        &rows,
+        opened.wrong,
+        &mut lowest,
+    );
     text::put_open_line(
         out,
         0,
         number,
         opened.wrong,
+        &lowest,
         h.params.k,
         h.params.d,
         rows[0],

@@ -7,7 +7,6 @@ use native.Mathlib.Decide.{decLe}
 use native.Mathlib.Omega.{arith}
 use mathlib.Core.Bool.{false}
 use mathlib.Core.List.{List, [], _∷_}
-use Rattle.words.specs.Faults.{lengthFault}
 use Rattle.words.specs.Refusal.{first}
 use Rattle.words.proofs.InRange.{range-ok}
 use Rattle.words.proofs.Refusal.{first-right}
@@ -26,7 +25,7 @@ use Rattle.fetch.specs.Fetch.{placeFault}
 use Rattle.fetch.proofs.Fetch.{place-in}
 use Rattle.totals.specs.Values.{valuesFrom}
 use Rattle.totals.proofs.Values.{values-same}
-use Rattle.archive.specs.Archive.{shareBy, sharesBy, sharesAt, placeOpening, openingFault, openPlace}
+use Rattle.archive.specs.Archive.{shareBy, sharesBy, sharesAt, placeOpening, outputsFault, openingFault, openPlace}
 use Rattle.archive.proofs.Shares.{values-all, shares-count, shares-holders}
 use Rattle.mending.specs.Mended.{wrongAt, reworded, mendedWords}
 use Rattle.mending.proofs.Words.{Fitting, reworded-accepted, reworded-order, reworded-files, reworded-first, reworded-heading, reworded-words}
@@ -50,11 +49,11 @@ unless-opens zero o q e = (refl, e)
 unless-opens (suc c) o q e = opens-not (sym e)
 
 -- a call with nothing ahead of its opening is of a place that is there
-place-there : (bs : List ℕ) (p n w : ℕ) → openingFault bs n w (placeFault (bundleHeading bs) p) ≡ 0 → p < bundleHeading bs .jobs
+place-there : (bs : List ℕ) (p n w lo : ℕ) → openingFault bs n w lo (placeFault (bundleHeading bs) p) ≡ 0 → p < bundleHeading bs .jobs
 unfolding openingFault
-place-there bs p n w e =
+place-there bs p n w lo e =
     place-in (bundleHeading bs) p
-    (first-right (lengthFault 1 w) _ (first-right (lengthFault (paramsOf bs .d) n) _ (first-right (bundleFault bs) _ e)))
+    (first-right (outputsFault (paramsOf bs .d) n w lo) _ (first-right (bundleFault bs) _ e))
 
 module _ (bs : List ℕ) (z : bundleFault bs ≡ 0) (b : Bytes bs) where
   abbrev out : List ℕ
@@ -148,24 +147,24 @@ module _ (bs : List ℕ) (z : bundleFault bs ≡ 0) (b : Bytes bs) where
 
   -- ---- a call that opens a job
 
-  module _ (p n w : ℕ) where
-    fault-same : openingFault out n w (placeFault (bundleHeading out) p) ≡ openingFault bs n w (placeFault (bundleHeading bs) p)
+  module _ (p n w lo : ℕ) where
+    fault-same : openingFault out n w lo (placeFault (bundleHeading out) p) ≡ openingFault bs n w lo (placeFault (bundleHeading bs) p)
     unfolding openingFault
     fault-same =
         let a : bundleFault out ≡ bundleFault bs = reworded-accepted bs z b (mendedWords bs) fits ∙ sym z in
-        λ i. first (a i) (first (lengthFault (params i .d) n) (first (lengthFault 1 w) (placeFault (heading i) p)))
+        λ i. first (a i) (first (outputsFault (params i .d) n w lo) (placeFault (heading i) p))
 
-    pub answers-same : openPlace out p n w ≡ openPlace bs p n w
+    pub answers-same : openPlace out p n w lo ≡ openPlace bs p n w lo
     unfolding openPlace
     answers-same =
         ap (λ (c : ℕ). unlessFault c (placeOpening out p)) fault-same
-        ∙ unless-same _ (placeOpening out p) (placeOpening bs p) (λ c. opening-same p (place-there bs p n w c))
+        ∙ unless-same _ (placeOpening out p) (placeOpening bs p) (λ c. opening-same p (place-there bs p n w lo c))
 
-    pub nobody-named : (q : Polynomial) (old : List ℕ) → openPlace out p n w ≡ opens q →
-        wrongInto (paramsOf out .k) (paramsOf out .d) (sharesAt out p) old (openPlace out p n w) ≡ 0 ∷ []
+    pub nobody-named : (q : Polynomial) (old : List ℕ) → openPlace out p n w lo ≡ opens q →
+        wrongInto (paramsOf out .k) (paramsOf out .d) (sharesAt out p) old (openPlace out p n w lo) ≡ 0 ∷ []
     unfolding openPlace
     nobody-named q old e =
-        let x = unless-opens (openingFault out n w (placeFault (bundleHeading out) p)) (placeOpening out p) q e in
-        let l : p < bundleHeading bs .jobs = place-there bs p n w (sym fault-same ∙ x .0) in
+        let x = unless-opens (openingFault out n w lo (placeFault (bundleHeading out) p)) (placeOpening out p) q e in
+        let l : p < bundleHeading bs .jobs = place-there bs p n w lo (sym fault-same ∙ x .0) in
         ap (wrongInto (paramsOf out .k) (paramsOf out .d) (sharesAt out p) old) e
         ∙ ap (λ s. s ∷ []) (none-named p l q (sym (opening-same p l) ∙ x .1))

@@ -60,10 +60,10 @@ pub record Mends (bs out : List ℕ) : Type 0 where
   pub keeps : (f p : ℕ) → f < filesOf bs → p < bundleHeading bs .jobs → (faultOf (placeOpening bs p) ≡ 0 → ⊥) →
       part (jobAt bs f p) (jobSize (bundleHeading bs)) out ≡ part (jobAt bs f p) (jobSize (bundleHeading bs)) bs
   -- "Opening the mended bundle gives the same words and names nobody wrong in the opened jobs", and the same number in the others: of the call that
-  -- opens the job at place p into outputs of n words and of w
-  pub answers : (p n w : ℕ) → openPlace out p n w ≡ openPlace bs p n w
-  pub nobody : (p n w : ℕ) (q : Polynomial) (old : List ℕ) → openPlace out p n w ≡ opens q →
-      wrongInto (paramsOf out .k) (paramsOf out .d) (sharesAt out p) old (openPlace out p n w) ≡ 0 ∷ []
+  -- opens the job at place p into outputs of n words, of w, and of l bytes
+  pub answers : (p n w l : ℕ) → openPlace out p n w l ≡ openPlace bs p n w l
+  pub nobody : (p n w l : ℕ) (q : Polynomial) (old : List ℕ) → openPlace out p n w l ≡ opens q →
+      wrongInto (paramsOf out .k) (paramsOf out .d) (sharesAt out p) old (openPlace out p n w l) ≡ 0 ∷ []
   -- mending it again changes nothing
   pub again : mended out ≡ out
   -- each of its files is one that the file writer would write, where every job opened

@@ -95,8 +95,10 @@ fn mend_place(bytes: &[u8], h: Heading, files: usize, place: usize, out: &mut [u
         (placeOpening (now (bytes .entry)) place) ⌝ }
     ensures out { λ _. ⌜ now (out .exit) ≡ mendedTo (now (bytes .entry)) (place + 1) 0 ⌝ }
 {
+    let holders = archive::load_holders(bytes, h, files);
+    let mut shares = [[0u64; 6]; 63];
     let mut rows = [[0u64; 6]; 64];
-    let opened = archive::place_opening(bytes, h, files, place, &mut rows);
+    let opened = archive::place_opening(bytes, h, files, place, &holders, &mut shares, &mut rows);
     mend_files(bytes, h, files, place, opened, rows, out);
     opened
 }

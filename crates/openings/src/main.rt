@@ -1,6 +1,6 @@
 // Dealing and opening at the edges of their rules. A case is a line of standard input: the call and its edge, k, d, n, t, what is lent, and
 // what the output holds before the call. Its answer is a line: the call and its edge, the call's number, for an opening the set of the wrong
-// holders as a number, and what the output holds after the call.
+// holders as a number and their positions, 64 entries that hold 7 before the call, and what the output holds after the call.
 //   deal, EDGE|k|d|n|t|job|coefficients||out    open, EDGE|k|d|n|t|holders|shares|e|out
 use libc::STDIN_FILENO;
 use words::Params;
@@ -11,11 +11,22 @@ fn deal(p: Params, job: &[u64], coefficients: &[u64], out: &mut [u64]) {
     cases::print_words(out);
 }
 
+// Prints a space and a number for each position.
+fn print_positions(lowest: &[u8]) {
+    let mut i = 0;
+    while i < lowest.len() {
+        cases::print_number(lowest[i] as u64);
+        i += 1;
+    }
+}
+
 fn open(p: Params, holders: &[u64], shares: &[u64], e: u64, out: &mut [u64]) {
     let mut wrong = [0u64; 1];
-    let fault = sharing::open_shares(p, holders, shares, e, out, &mut wrong);
+    let mut lowest = [7u8; 64];
+    let fault = sharing::open_shares(p, holders, shares, e, out, &mut wrong, &mut lowest);
     cases::print_number(fault as u64);
     cases::print_number(wrong[0]);
+    print_positions(&lowest);
     cases::print_words(out);
 }
 

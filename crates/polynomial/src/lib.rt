@@ -55,6 +55,14 @@ pub fn eval(k: u64, d: usize, p: [[u64; 6]; 64], len: usize, x: u64) -> [u64; 6]
     ring::reduce(k, eval64(d, &p, len, x))
 }
 
+// The same of a polynomial in lent rows.
+pub fn eval_lent(k: u64, d: usize, p: &[[u64; 6]; 64], len: usize, x: u64) -> [u64; 6]
+    requires { ⌜ ((1 ≤ k) × (k ≤ 64)) × ((2 ≤ d) × (d ≤ 6)) × (len ≤ 64) × Shaped (now p) ⌝ }
+    ensures { λ r. ⌜ r ≡ held d (value k d (coefs d len (now (p .entry))) (point d x)) ⌝ }
+{
+    ring::reduce(k, eval64(d, p, len, x))
+}
+
 // p := p - e q in words of 64 bits, in the first len rows.
 fn subtract_by(d: usize, p: &mut [[u64; 6]; 64], e: [u64; 6], q: &[[u64; 6]; 64], len: usize)
     requires { ⌜ ((2 ≤ d) × (d ≤ 6)) × (len ≤ 64) × Shaped (now p) × Shaped (now q) ⌝ }

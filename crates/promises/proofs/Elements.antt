@@ -60,23 +60,24 @@ module _ (p : Params) (ranges : InRange p) (hs : List ℕ) (e : ℕ) (present : 
       let ws = elementsOf own hs in
       let q = sumDealing p j n in
       let ss = lent (p .d) hs ws in
-      let lc : LentClear p hs ws (p .d) 1 =
+      let lc : LentClear p hs ws (p .d) 1 64 =
       record {
         params = range-ok p ranges;
         words-length = elements-length (p .d) own hs long;
         output = refl;
         wrong-output = refl;
+        lowest-output = refl;
         rising = present .rising;
       } in
-      let holders = clear-holders p hs ws (p .d) 1 lc in
+      let holders = clear-holders p hs ws (p .d) 1 64 lc in
       let set : errorSet (p .k) (p .d) q ss ≡ changedHolders should own hs =
       ap (errorSet (p .k) (p .d) q) (elements-shares (p .d) own hs long)
       ∙ errors-changed (p .k) (p .d) q own hs
       ∙ changed-same (λ h. value (p .k) (p .d) q (point (p .d) h)) should own hs
       (all-map (λ h g. sum-value p ranges j n deals h (g .0) (g .1)) hs (holders-from (p .n) 0 hs (present .rising))) in
       let count = ones-errors (p .k) (p .d) q ss (all-map (λ (s : Share) g. g .0) ss (holders .0)) (holders .1) in
-      let o : opening p hs ws e (p .d) 1 ≡ opens q =
-      lent-decides p hs ws e (p .d) 1 lc (present .enough) .finds q
+      let o : opening p hs ws e (p .d) 1 64 ≡ opens q =
+      lent-decides p hs ws e (p .d) 1 64 lc (present .enough) .finds q
       (record { poly = sum-poly p ranges j n deals; near = rw (← count, set) few }) in
       record {
         opened = o;

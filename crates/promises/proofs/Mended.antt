@@ -71,9 +71,9 @@ module _ (a : Archive) (ws : ℕ → List ℕ) (w : ℕ → ℕ → Element) whe
 -- ---- the words of the mended bundle
 
 -- a call that opens a place opens it as mending does
-place-opened : (bs : List ℕ) (p n w : ℕ) (q : Polynomial) → openPlace bs p n w ≡ opens q → placeOpening bs p ≡ opens q
+place-opened : (bs : List ℕ) (p n w l : ℕ) (q : Polynomial) → openPlace bs p n w l ≡ opens q → placeOpening bs p ≡ opens q
 unfolding openPlace
-place-opened bs p n w q e = unless-opens (openingFault bs n w (placeFault (bundleHeading bs) p)) (placeOpening bs p) q e .1
+place-opened bs p n w l q e = unless-opens (openingFault bs n w l (placeFault (bundleHeading bs) p)) (placeOpening bs p) q e .1
 
 module _ (a : Archive) (w : Written a) (js : List Job) (deals : All (Deals (a .params)) js) (holds : HoldsShares a js) (m : EnoughFiles a)
     (ws : ℕ → List ℕ) (changed : Changed a ws) (few : ones (changedAnywhere (withWords a ws) js) ≤ a .allowance) where
@@ -94,7 +94,7 @@ module _ (a : Archive) (w : Written a) (js : List Job) (deals : All (Deals (a .p
       let g = all-at (λ i. (1 ≤ i) × (i ≤ q .n)) (a .holders) f 0 (holders-good a stored) l in
       let count = jobs-count a stored js deals holds in
       mended-opened bs f p (dealingOf q j)
-      (place-opened bs p (q .d) 1 (dealingOf q j) (changed-place-opens a w js deals holds m ws changed few p u .opened))
+      (place-opened bs p (q .d) 1 64 (dealingOf q j) (changed-place-opens a w js deals holds m ws changed few p u .opened))
       ∙ ap₂ (λ (o : Params) (i : ℕ). value (o .k) (o .d) (dealingOf q j) (point (o .d) i)) (params-is (withWords a ws) r)
       (holder-is (withWords a ws) r f l)
       ∙ sym (share-value q (range a stored) j (deals-at a stored js deals count p u) h (g .0) (g .1))

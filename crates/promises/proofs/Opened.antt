@@ -81,25 +81,25 @@ module _ (a : Archive) (s : Stored a) where
   -- up to e holders have something else at a place
   pub stored-place-opens : EnoughFiles a → (j : Job) → Deals (a .params) j → (i : ℕ) → i < length (a .numbers) →
       ones (changedAt a j i) ≤ a .allowance →
-      PlaceOpensTo (writtenBundle a) i (a .params .d) 1 (dealingOf (a .params) j) (j .secret) (changedAt a j i)
+      PlaceOpensTo (writtenBundle a) i (a .params .d) 1 64 (dealingOf (a .params) j) (j .secret) (changedAt a j i)
   stored-place-opens m j deals i u few =
       let q = dealingOf p j in
       let g = range a s in
-      let clear : PlaceClear bs i (p .d) 1 =
-      record { no-fault = r .no-fault; output = d-read; wrong-output = refl; place = omega (arith, jobs-is a r) } in
+      let clear : PlaceClear bs i (p .d) 1 64 =
+      record { no-fault = r .no-fault; output = d-read; wrong-output = refl; lowest-output = refl; place = omega (arith, jobs-is a r) } in
       let e : errorSet (paramsOf bs .k) (paramsOf bs .d) q (sharesAt bs i) ≡ changedAt a j i =
       ap₂ (λ (m : Params) (ss : List Share). errorSet (m .k) (m .d) q ss) (params-is a r) (shares-at a r i u)
       ∙ errors-changed (p .k) (p .d) q (wordsIn a i) (a .holders)
       ∙ changed-same (λ h. value (p .k) (p .d) q (point (p .d) h)) (shareOf p j) (wordsIn a i) (a .holders)
       (all-map (λ h x. sym (share-value p g j deals h (x .0) (x .1))) (a .holders) (holders-good a s)) in
-      near-opens bs (r .no-fault) (λ f. wordsOf bs f i) (openPlace bs i (p .d) 1)
-      (place-decides bs i (p .d) 1 clear (enough-files a r m)) q (poly-read q (poly-of p g j deals)) (j .secret) (free-of p g j deals)
+      near-opens bs (r .no-fault) (λ f. wordsOf bs f i) (openPlace bs i (p .d) 1 64)
+      (place-decides bs i (p .d) 1 64 clear (enough-files a r m)) q (poly-read q (poly-of p g j deals)) (j .secret) (free-of p g j deals)
       (changedAt a j i) e (rw (r .allowance) few)
 
   -- the totals of up to e holders over a run are changed, and no word of it is wide
   pub stored-run-opens : EnoughFiles a → (j : ℕ → Job) (x y : ℕ) → x ≤ y → y ≤ length (a .numbers) → inWidthOver a x (y - x) ≡ true →
       ((i : ℕ) → i < y - x → Deals (a .params) (j i)) → ones (changedOver a j x (y - x)) ≤ a .allowance →
-      RunOpensTo (writtenBundle a) x y (a .params .d) 1
+      RunOpensTo (writtenBundle a) x y (a .params .d) 1 64
       (sumDealing (a .params) j (y - x))
       (sumSecret (a .params) j (y - x)) (changedOver a j x (y - x))
   stored-run-opens m j x y l u narrow deals few =
@@ -107,11 +107,12 @@ module _ (a : Archive) (s : Stored a) where
       let g = range a s in
       let q = sumDealing p j n in
       let held : ℕ → Element = λ h. sumTo (p .k) (p .d) (λ i. wordsIn a (x + i) h) n in
-      let clear : RunClear bs x y (p .d) 1 =
+      let clear : RunClear bs x y (p .d) 1 64 =
       record {
         no-fault = r .no-fault;
         output = d-read;
         wrong-output = refl;
+        lowest-output = refl;
         low = l;
         high = omega (arith, jobs-is a r);
         width = width-is a r x n (omega arith) ∙ narrow;
@@ -121,14 +122,14 @@ module _ (a : Archive) (s : Stored a) where
       ∙ errors-changed (p .k) (p .d) q held (a .holders)
       ∙ changed-same (λ h. value (p .k) (p .d) q (point (p .d) h)) (λ h. sumTo (p .k) (p .d) (λ i. shareOf p (j i) h) n) held (a .holders)
       (all-map (λ h z. sum-value p g j n deals h (z .0) (z .1)) (a .holders) (holders-good a s)) in
-      near-opens bs (r .no-fault) (λ f. runTotal bs f x n) (openRun bs x y (p .d) 1)
-      (run-decides bs x y (p .d) 1 clear (enough-files a r m)) q (poly-read q (sum-poly p g j n deals))
+      near-opens bs (r .no-fault) (λ f. runTotal bs f x n) (openRun bs x y (p .d) 1 64)
+      (run-decides bs x y (p .d) 1 64 clear (enough-files a r m)) q (poly-read q (sum-poly p g j n deals))
       (sumSecret p j n) (sum-free p g j n deals) (changedOver a j x n) e (rw (r .allowance) few)
 
   pub wide-run-declines : (x y : ℕ) → x ≤ y → y ≤ length (a .numbers) → inWidthOver a x (y - x) ≡ false →
-      openRun (writtenBundle a) x y (a .params .d) 1 ≡ declines WIDE-WORD
+      openRun (writtenBundle a) x y (a .params .d) 1 64 ≡ declines WIDE-WORD
   wide-run-declines x y l u wide =
-      run-wide bs x y (p .d) 1 (r .no-fault) d-read refl l (omega (arith, jobs-is a r)) (width-is a r x (y - x) (omega arith) ∙ wide)
+      run-wide bs x y (p .d) 1 64 (r .no-fault) d-read refl refl l (omega (arith, jobs-is a r)) (width-is a r x (y - x) (omega arith) ∙ wide)
 
   -- ---- dealt jobs, one for each number
 
@@ -193,14 +194,14 @@ module _ (a : Archive) (w : Written a) (js : List Job) (deals : All (Deals (a .p
     later = changed-stored a ws (written-ranges a w .well-formed) changed
 
     pub changed-place-opens : (i : ℕ) → i < length (a .numbers) →
-        PlaceOpensTo (writtenBundle (withWords a ws)) i (a .params .d) 1 (dealingOf (a .params) (atPlace js i)) (atPlace js i .secret)
+        PlaceOpensTo (writtenBundle (withWords a ws)) i (a .params .d) 1 64 (dealingOf (a .params) (atPlace js i)) (atPlace js i .secret)
         (changedAt (withWords a ws) (atPlace js i) i)
     changed-place-opens i u =
         stored-place-opens (withWords a ws) later m (atPlace js i) (deals-at a stored js deals count i u) i u
         (le-trans (fewer-at (withWords a ws) later js deals count i u) few)
 
     pub changed-sum-opens : (x y : ℕ) → x ≤ y → y ≤ length (a .numbers) → inWidthOver (withWords a ws) x (y - x) ≡ true →
-        RunOpensTo (writtenBundle (withWords a ws)) x y (a .params .d) 1
+        RunOpensTo (writtenBundle (withWords a ws)) x y (a .params .d) 1 64
         (sumDealing (a .params) (fromPlace js x) (y - x))
         (sumSecret (a .params) (fromPlace js x) (y - x)) (changedOver (withWords a ws) (fromPlace js x) x (y - x))
     changed-sum-opens x y l u narrow =
@@ -209,18 +210,18 @@ module _ (a : Archive) (w : Written a) (js : List Job) (deals : All (Deals (a .p
 
   -- all files have what was dealt
   pub dealt-place-opens : EnoughFiles a → (i : ℕ) → i < length (a .numbers) →
-      PlaceOpensTo (writtenBundle a) i (a .params .d) 1 (dealingOf (a .params) (atPlace js i)) (atPlace js i .secret) 0
+      PlaceOpensTo (writtenBundle a) i (a .params .d) 1 64 (dealingOf (a .params) (atPlace js i)) (atPlace js i .secret) 0
   dealt-place-opens m i u =
       let q = a .params in
       let j = atPlace js i in
       let none : changedAt a j i ≡ 0 =
       none-changed (shareOf q j) (wordsIn a i) (a .holders)
       (all-map₂ (words-share a stored js deals count i u) (a .holders) (holders-good a stored) holds) in
-      subst (PlaceOpensTo (writtenBundle a) i (q .d) 1 (dealingOf q j) (j .secret)) none
+      subst (PlaceOpensTo (writtenBundle a) i (q .d) 1 64 (dealingOf q j) (j .secret)) none
       (stored-place-opens a stored m j (deals-at a stored js deals count i u) i u (rw (none, no-ones) (omega arith)))
 
   pub dealt-sum-opens : EnoughFiles a → (x y : ℕ) → x ≤ y → y ≤ length (a .numbers) →
-      RunOpensTo (writtenBundle a) x y (a .params .d) 1
+      RunOpensTo (writtenBundle a) x y (a .params .d) 1 64
       (sumDealing (a .params) (fromPlace js x) (y - x))
       (sumSecret (a .params) (fromPlace js x) (y - x)) 0
   dealt-sum-opens m x y l u =
@@ -230,6 +231,6 @@ module _ (a : Archive) (w : Written a) (js : List Job) (deals : All (Deals (a .p
       let none : changedOver a j x n ≡ 0 =
       none-changed (λ h. sumTo (q .k) (q .d) (λ i. shareOf q (j i) h) n) (λ h. sumTo (q .k) (q .d) (λ i. wordsIn a (x + i) h) n) (a .holders)
       (all-map₂ (sums-share a stored js deals count x n (omega arith)) (a .holders) (holders-good a stored) holds) in
-      subst (RunOpensTo (writtenBundle a) x y (q .d) 1 (sumDealing q j n) (sumSecret q j n)) none
+      subst (RunOpensTo (writtenBundle a) x y (q .d) 1 64 (sumDealing q j n) (sumSecret q j n)) none
       (stored-run-opens a stored m j x y l u (ranges-width a (written-ranges a w) x n) (λ i v. deals-at a stored js deals count (x + i) (omega arith))
       (rw (none, no-ones) (omega arith)))

@@ -13,7 +13,7 @@ use Rattle.words.proofs.Faults.{clear-params, clear-length}
 use Rattle.words.proofs.Refusal.{first-none, unless-yes}
 use Rattle.galois.specs.Element.{Element}
 use Rattle.codewords.specs.Codeword.{Share, Polynomial}
-use Rattle.codewords.specs.Opening.{Opening, secretInto, wrongInto, unlessFault, answerTo}
+use Rattle.codewords.specs.Opening.{Opening, secretInto, wrongInto, lowestRoom, unlessFault, answerTo}
 use Rattle.codewords.proofs.Opening.{unless-none}
 use Rattle.sharing.specs.Dealt.{OpensTo}
 use Rattle.sharing.specs.Opening.{lent, risingTo, lentFault, opening}
@@ -26,7 +26,7 @@ use Rattle.totals.specs.Values.{valuesFrom}
 use Rattle.totals.proofs.AddTotals.{first-last}
 use Rattle.totals.proofs.Totals.{TotalClear, total-clear, total-words}
 use Rattle.totals.proofs.Values.{every-all}
-use Rattle.archive.specs.Archive.{shareBy, sharesOver, filesInWidth, runOpening, openingFault, openRun}
+use Rattle.archive.specs.Archive.{shareBy, sharesOver, filesInWidth, runOpening, outputsFault, openingFault, openRun}
 use Rattle.archive.specs.Dealt.{RunOpensTo}
 use Rattle.archive.proofs.Shares.{total-element}
 use Rattle.promises.specs.Totals.{holdersOf, elementsOf, totalsOf}
@@ -74,23 +74,23 @@ module _ (bs : List ℕ) (z : bundleFault bs ≡ 0) (a b : ℕ) (old : ℕ → L
   all-are = totals-are 0 (filesOf bs) (omega arith)
 
   -- all refusals but those of the outputs are none, of the lent totals and of the run
-  lent-outputs : (n w : ℕ) → lentFault (paramsOf bs) hs ws n w ≡ first (lengthFault d n) (lengthFault 1 w)
-  unfolding lentFault
-  lent-outputs n w =
+  lent-outputs : (n w lo : ℕ) → lentFault (paramsOf bs) hs ws n w lo ≡ outputsFault d n w lo
+  unfolding lentFault outputsFault
+  lent-outputs n w lo =
       first-none (paramsFault (paramsOf bs)) _ (clear-params (paramsOf bs) (bundle-ranges bs (bundle-ok bs z) .book))
       ∙ first-none (lengthFault (length hs * d) (length ws)) _
       (clear-length (length hs * d) (length ws) (elements-length d total hs (all-are .0)))
-      ∙ ap (λ (x : ℕ). first (lengthFault d n) (first (lengthFault 1 w) x))
+      ∙ ap (λ (x : ℕ). first (lengthFault d n) (first (lengthFault 1 w) (first (lengthFault lowestRoom lo) x)))
       (unless-yes (risingTo (paramsOf bs .n) 0 hs) HOLDER (accepted-rise bs z))
-      ∙ ap (first (lengthFault d n)) (first-last (lengthFault 1 w))
+      ∙ ap (λ (x : ℕ). first (lengthFault d n) (first (lengthFault 1 w) x)) (first-last (lengthFault lowestRoom lo))
 
-  run-outputs : (n w : ℕ) → openingFault bs n w (runFault (bundleHeading bs) a b) ≡ first (lengthFault d n) (lengthFault 1 w)
+  run-outputs : (n w lo : ℕ) → openingFault bs n w lo (runFault (bundleHeading bs) a b) ≡ outputsFault d n w lo
   unfolding openingFault
-  run-outputs n w =
+  run-outputs n w lo =
       let c = clear 0 (omega (arith, bundle-ok bs z .files .some)) in
       first-none (bundleFault bs) _ z
-      ∙ ap (λ (x : ℕ). first (lengthFault d n) (first (lengthFault 1 w) x)) (run-none (bundleHeading bs) a b (c .low) (c .high))
-      ∙ ap (first (lengthFault d n)) (first-last (lengthFault 1 w))
+      ∙ ap (first (outputsFault d n w lo)) (run-none (bundleHeading bs) a b (c .low) (c .high))
+      ∙ first-last (outputsFault d n w lo)
 
   in-width : filesInWidth bs a (b - a) ≡ true
   in-width =
@@ -98,25 +98,25 @@ module _ (bs : List ℕ) (z : bundleFault bs ≡ 0) (a b : ℕ) (old : ℕ → L
       (λ f l. ap (λ (x : ℕ). runInWidth bs x a (b - a)) (sym (holder-file bs z f l)) ∙ clear f l .width)
 
   -- the lent shares are those of the run, and they open to what it opens to, whatever the outputs are
-  pub totals-open : (n w : ℕ) →
+  pub totals-open : (n w lo : ℕ) →
       (lent (paramsOf bs .d) (holdersOf bs) (totalsOf (λ h. bs) a b old (holdersOf bs)) ≡ sharesOver bs a (b - a))
-      × (opening (paramsOf bs) (holdersOf bs) (totalsOf (λ h. bs) a b old (holdersOf bs)) (allowanceOf bs) n w ≡ openRun bs a b n w)
+      × (opening (paramsOf bs) (holdersOf bs) (totalsOf (λ h. bs) a b old (holdersOf bs)) (allowanceOf bs) n w lo ≡ openRun bs a b n w lo)
   unfolding opening openRun runOpening
-  totals-open n w =
+  totals-open n w lo =
       let shares = elements-shares d total hs (all-are .0) ∙ all-are .1 in
       let p = paramsOf bs in
       let e = allowanceOf bs in (
         shares,
-        ap₂ unlessFault (lent-outputs n w) (ap (answerTo p e) shares)
-            ∙ sym (ap₂ unlessFault (run-outputs n w)
+        ap₂ unlessFault (lent-outputs n w lo) (ap (answerTo p e) shares)
+            ∙ sym (ap₂ unlessFault (run-outputs n w lo)
             (unless-none (unless (filesInWidth bs a (b - a)) WIDE-WORD) (answerTo p e (sharesOver bs a (b - a)))
             (unless-yes (filesInWidth bs a (b - a)) WIDE-WORD in-width))),
       )
 
-  pub totals-open-to : (q : Polynomial) (s : Element) (x : ℕ) → RunOpensTo bs a b (paramsOf bs .d) 1 q s x →
+  pub totals-open-to : (q : Polynomial) (s : Element) (x : ℕ) → RunOpensTo bs a b (paramsOf bs .d) 1 64 q s x →
       OpensTo (paramsOf bs) (holdersOf bs) (totalsOf (λ h. bs) a b old (holdersOf bs)) (allowanceOf bs) q s x
   totals-open-to q s x g =
-      let t = totals-open d 1 in
+      let t = totals-open d 1 64 in
       record {
         opened = t .1 ∙ g .opened;
         secret = λ was. ap (secretInto was) (t .1) ∙ g .secret was;

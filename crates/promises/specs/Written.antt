@@ -2,15 +2,16 @@
 -- written of these files, and words that the files have later. What is asked of each step is that its call returned 0. Assumes nothing.
 use mathlib.Core.Path.{_≡_}
 use Prim.Native.Nat.{ℕ, _+_, _-_, _*_, _^_, _≤_, _<_}
-use mathlib.Core.Bool.{Bool, true, not}
+use mathlib.Core.Bool.{Bool, true}
 use mathlib.Core.List.{List, [], _∷_, _++_}
 use lib.ListN.{length, getD, take, drop}
 use Rattle.algebra.specs.Shares.{All}
 use Rattle.words.specs.Params.{paramsOk}
 use Rattle.words.specs.Word.{allInWidth}
 use Rattle.words.specs.declared.Params.{Params}
-use Rattle.galois.specs.Element.{Element, same}
+use Rattle.galois.specs.Element.{Element}
 use Rattle.codewords.specs.Codeword.{Polynomial, when}
+use Rattle.codewords.specs.Comparison.{apart}
 use Rattle.sharing.specs.Dealing.{dealing, dealt}
 use Rattle.sharing.specs.Dealt.{Dealable, Job}
 use Rattle.sharing.specs.Opening.{risingTo}
@@ -156,9 +157,8 @@ pub record Changed (a : Archive) (ws : ℕ → List ℕ) : Type 0 where
 
 -- the set of the holders whose words are not those that they should be, bit h - 1 for holder h
 unfoldable pub changedHolders : (ℕ → Element) → (ℕ → Element) → List ℕ → ℕ
-unfolding same
 changedHolders should is [] = 0
-changedHolders should is (h ∷ hs) = when (not (same (is h) (should h))) (2 ^ (h - 1)) + changedHolders should is hs
+changedHolders should is (h ∷ hs) = when (apart (is h) (should h)) (2 ^ (h - 1)) + changedHolders should is hs
 
 -- those whose files have other words than their shares of the jobs
 abbrev pub changedAnywhere : Archive → List Job → ℕ

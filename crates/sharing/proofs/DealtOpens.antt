@@ -105,14 +105,14 @@ module _ (p : Params) (ok : paramsOk p ≡ true) (hs : List ℕ) where
     pub through-opens-changed : (ws : List ℕ) → Changed p hs vs ws e → OpensTo p hs ws e q a (changedIn p hs vs ws)
     through-opens-changed ws c =
         let ss = lent (p .d) hs ws in
-        let clear : LentClear p hs ws (p .d) 1 =
-        record { params = ok; words-length = c .sized; output = refl; wrong-output = refl; rising = present .rising } in
-        let holders = clear-holders p hs ws (p .d) 1 clear in
+        let clear : LentClear p hs ws (p .d) 1 64 =
+        record { params = ok; words-length = c .sized; output = refl; wrong-output = refl; lowest-output = refl; rising = present .rising } in
+        let holders = clear-holders p hs ws (p .d) 1 64 clear in
         let same : errorSet (p .k) (p .d) q ss ≡ changedIn p hs vs ws =
         rw (g .values) (errors-changed (p .k) (p .d) (range .d-low) (range .d-high) q (rows g) hs ws) in
         let count = ones-errors (p .k) (p .d) q ss (all-map (λ (r : Share) x. x .0) ss (holders .0)) (holders .1) in
-        let o : opening p hs ws e (p .d) 1 ≡ opens q =
-        lent-decides p hs ws e (p .d) 1 clear (present .enough) .finds q
+        let o : opening p hs ws e (p .d) 1 64 ≡ opens q =
+        lent-decides p hs ws e (p .d) 1 64 clear (present .enough) .finds q
         (record { poly = g .poly; near = rw (← count, same) (c .few) }) in
         record {
           opened = o;

@@ -20,6 +20,7 @@ use Rattle.words.proofs.Tests.{and-left, and-right, and-both, and-yes, and-no}
 use Rattle.algebra.specs.Shares.{All}
 use Rattle.algebra.proofs.Shares.{all-map}
 use Rattle.codewords.specs.Codeword.{Share}
+use Rattle.codewords.specs.Opening.{lowestRoom}
 use Rattle.codewords.specs.WellFormed.{InWidth, Rising, Holders}
 use Rattle.codewords.proofs.Without.{rising-different}
 use Rattle.level.specs.Shares.{Sized}
@@ -116,28 +117,31 @@ lent-width k d (h ∷ hs) ws l e = (
 )
 
 -- lent shares with no fault so far
-pub lent-clear : (p : Params) (hs ws : List ℕ) (n w : ℕ) → lentFault p hs ws n w ≡ 0 → LentClear p hs ws n w
+pub lent-clear : (p : Params) (hs ws : List ℕ) (n w l : ℕ) → lentFault p hs ws n w l ≡ 0 → LentClear p hs ws n w l
 unfolding lentFault
-lent-clear p hs ws n w e₁ =
+lent-clear p hs ws n w l e₁ =
     let e₂ = first-right (paramsFault p) _ e₁ in
     let e₃ = first-right (lengthFault (length hs * p .d) (length ws)) _ e₂ in
     let e₄ = first-right (lengthFault (p .d) n) _ e₃ in
+    let e₅ = first-right (lengthFault 1 w) _ e₄ in
     record {
       params = range-ok p (params-clear p (first-left (paramsFault p) _ e₁));
       words-length = length-clear (length hs * p .d) (length ws) (first-left (lengthFault (length hs * p .d) (length ws)) _ e₂);
       output = length-clear (p .d) n (first-left (lengthFault (p .d) n) _ e₃);
       wrong-output = length-clear 1 w (first-left (lengthFault 1 w) _ e₄);
-      rising = unless-held (risingTo (p .n) 0 hs) HOLDER (omega arith) (first-right (lengthFault 1 w) _ e₄);
+      lowest-output = length-clear lowestRoom l (first-left (lengthFault lowestRoom l) _ e₅);
+      rising = unless-held (risingTo (p .n) 0 hs) HOLDER (omega arith) (first-right (lengthFault lowestRoom l) _ e₅);
     }
 
-pub clear-lent : (p : Params) (hs ws : List ℕ) (n w : ℕ) → LentClear p hs ws n w → lentFault p hs ws n w ≡ 0
+pub clear-lent : (p : Params) (hs ws : List ℕ) (n w l : ℕ) → LentClear p hs ws n w l → lentFault p hs ws n w l ≡ 0
 unfolding lentFault
-clear-lent p hs ws n w c =
+clear-lent p hs ws n w l c =
     first-none (paramsFault p) _ (clear-params p (ok-range p (c .params)))
     ∙ first-none (lengthFault (length hs * p .d) (length ws)) _ (clear-length (length hs * p .d) (length ws) (c .words-length))
     ∙ first-none (lengthFault (p .d) n) _ (clear-length (p .d) n (c .output))
     ∙ first-none (lengthFault 1 w) _ (clear-length 1 w (c .wrong-output))
+    ∙ first-none (lengthFault lowestRoom l) _ (clear-length lowestRoom l (c .lowest-output))
     ∙ unless-yes (risingTo (p .n) 0 hs) HOLDER (c .rising)
 
-pub clear-holders : (p : Params) (hs ws : List ℕ) (n w : ℕ) → LentClear p hs ws n w → Holders (p .d) (lent (p .d) hs ws)
-clear-holders p hs ws n w c = lent-holders (p .d) (p .n) hs ws (ok-range p (c .params) .n-high) (c .rising)
+pub clear-holders : (p : Params) (hs ws : List ℕ) (n w l : ℕ) → LentClear p hs ws n w l → Holders (p .d) (lent (p .d) hs ws)
+clear-holders p hs ws n w l c = lent-holders (p .d) (p .n) hs ws (ok-range p (c .params) .n-high) (c .rising)

@@ -10,8 +10,9 @@ use lib.ListN.{length, take, drop, length-append}
 use lib.Seq.{take-at, drop-at}
 use borrow.Author.Tests.{leb-true, ltb-true}
 use Rattle.words.proofs.Tests.{and-left, and-right}
-use Rattle.galois.specs.Element.{Element, sum, product, lower, point, same}
-use Rattle.galois.proofs.Elements.{same-refl}
+use Rattle.galois.specs.Element.{Element, sum, product, lower, point}
+use Rattle.codewords.specs.Comparison.{apart}
+use Rattle.codewords.proofs.Compared.{apart-not}
 use Rattle.galois.proofs.Lists.{product-comm}
 use Rattle.galois.proofs.Table.{length-lower}
 use Rattle.galois.proofs.Points.{length-point}
@@ -61,7 +62,7 @@ module _ (k d : ℕ) (dl : 2 ≤ d) (dh : d ≤ 6) where
     errors-changed [] ws = refl
     errors-changed (h ∷ hs) ws =
         ap₂ _+_
-        (ap (λ (v : Element). when (not (same (take d ws) v)) (2 ^ (h - 1))) (sym (first h hs)))
+        (ap (λ (v : Element). when (apart (take d ws) v) (2 ^ (h - 1))) (sym (first h hs)))
         (errors-changed hs (drop d ws)
         ∙ ap (λ (vs : List ℕ). changedSet (lent d hs vs) (lent d hs (drop d ws))) (sym (rest h hs)))
 
@@ -102,4 +103,4 @@ module _ (k d : ℕ) (dl : 2 ≤ d) (dh : d ≤ 6) where
 pub changed-none : (ss : List Share) → changedSet ss ss ≡ 0
 unfolding changedSet
 changed-none [] = refl
-changed-none (s ∷ ss) = ap₂ (λ (b : Bool) (n : ℕ). when (not b) (2 ^ (s .holder - 1)) + n) (same-refl (s .words)) (changed-none ss)
+changed-none (s ∷ ss) = ap₂ (λ (b : Bool) (n : ℕ). when b (2 ^ (s .holder - 1)) + n) (apart-not (s .words)) (changed-none ss)

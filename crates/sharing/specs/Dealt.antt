@@ -80,8 +80,8 @@ pub record Changed (p : Params) (hs vs ws : List ℕ) (e : ℕ) : Type 0 where
   pub sized : length ws ≡ length hs * p .d
   pub few : ones (changedIn p hs vs ws) ≤ e
 
--- the shares ws, lent with outputs of d words and of one, open to the polynomial q: the outputs then hold the job a and the set w
+-- the shares ws, lent with outputs of d words, of one and of 64 bytes, open to the polynomial q: the outputs then hold the job a and the set w
 pub record OpensTo (p : Params) (hs ws : List ℕ) (e : ℕ) (q : Polynomial) (a : Element) (w : ℕ) : Type 0 where
-  pub opened : opening p hs ws e (p .d) 1 ≡ opens q
-  pub secret : (old : List ℕ) → secretInto old (opening p hs ws e (p .d) 1) ≡ a
-  pub wrong : (old : List ℕ) → wrongInto (p .k) (p .d) (lent (p .d) hs ws) old (opening p hs ws e (p .d) 1) ≡ w ∷ []
+  pub opened : opening p hs ws e (p .d) 1 64 ≡ opens q
+  pub secret : (old : List ℕ) → secretInto old (opening p hs ws e (p .d) 1 64) ≡ a
+  pub wrong : (old : List ℕ) → wrongInto (p .k) (p .d) (lent (p .d) hs ws) old (opening p hs ws e (p .d) 1 64) ≡ w ∷ []

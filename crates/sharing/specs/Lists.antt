@@ -1,11 +1,11 @@
 -- Lists of shares that the theorems on dealt shares speak of: those of some holders, those made from others share by share, and which
 -- of them have been changed. Assumes nothing.
 use Prim.Native.Nat.{ℕ, zero, suc, _+_, _-_, _*_, _^_}
-use mathlib.Core.Bool.{not}
 use mathlib.Core.List.{List, [], _∷_, _++_}
 use lib.ListN.{take, drop}
-use Rattle.galois.specs.Element.{Element, same}
+use Rattle.galois.specs.Element.{Element}
 use Rattle.codewords.specs.Codeword.{Share, when}
+use Rattle.codewords.specs.Comparison.{apart}
 
 -- of the shares of all holders, one after another, those of the holders hs
 unfoldable pub ofHolders : ℕ → List ℕ → List ℕ → List ℕ
@@ -23,7 +23,6 @@ onPairs f d (suc n) vs ws = f (take d vs) (take d ws) ++ onPairs f d n (drop d v
 
 -- the set of the holders whose shares in the second list have other words than those in the same place of the first
 unfoldable pub changedSet : List Share → List Share → ℕ
-unfolding same
 changedSet [] rs = 0
 changedSet (s ∷ ss) [] = 0
-changedSet (s ∷ ss) (r ∷ rs) = when (not (same (r .words) (s .words))) (2 ^ (r .holder - 1)) + changedSet ss rs
+changedSet (s ∷ ss) (r ∷ rs) = when (apart (r .words) (s .words)) (2 ^ (r .holder - 1)) + changedSet ss rs

@@ -8,7 +8,7 @@ use Rattle.words.specs.Faults.{paramsFault, lengthFault}
 use Rattle.words.specs.Refusal.{first, unless, HOLDER}
 use Rattle.words.specs.declared.Params.{Params}
 use Rattle.codewords.specs.Codeword.{Share}
-use Rattle.codewords.specs.Opening.{Opening, unlessFault, answerTo}
+use Rattle.codewords.specs.Opening.{Opening, lowestRoom, unlessFault, answerTo}
 
 -- shares as they are lent: holders, and the d words of each in turn
 unfoldable pub lent : ℕ → List ℕ → List ℕ → List Share
@@ -20,17 +20,18 @@ unfoldable pub risingTo : ℕ → ℕ → List ℕ → Bool
 risingTo n prev [] = true
 risingTo n prev (h ∷ hs) = ltb prev h && (leb h n && risingTo n h hs)
 
--- the refusals ahead of 5 and 6, for outputs of n and of w words: the job's and the wrong holders'; "Order outside files: 1, 2, 4", and paper 02, K1:
--- "Opening one job no longer gives 3"
-unfoldable pub lentFault : Params → List ℕ → List ℕ → ℕ → ℕ → ℕ
+-- the refusals ahead of 5 and 6, for outputs of n and of w words and of l bytes: the job's, the wrong holders' and their positions'; "Order outside
+-- files: 1, 2, 4", and paper 02, K1: "Opening one job no longer gives 3"
+unfoldable pub lentFault : Params → List ℕ → List ℕ → ℕ → ℕ → ℕ → ℕ
 unfolding first unless paramsFault lengthFault risingTo
-lentFault p hs ws n w =
+lentFault p hs ws n w l =
     first (paramsFault p)
     (first (lengthFault (length hs * p .d) (length ws))
     (first (lengthFault (p .d) n)
-    (first (lengthFault 1 w) (unless (risingTo (p .n) 0 hs) HOLDER))))
+    (first (lengthFault 1 w)
+    (first (lengthFault lowestRoom l) (unless (risingTo (p .n) 0 hs) HOLDER)))))
 
--- the shares ws of the holders hs, with the error bound e, into outputs of n and of w words
-unfoldable pub opening : Params → List ℕ → List ℕ → ℕ → ℕ → ℕ → Opening
+-- the shares ws of the holders hs, with the error bound e, into outputs of n and of w words and of l bytes
+unfoldable pub opening : Params → List ℕ → List ℕ → ℕ → ℕ → ℕ → ℕ → Opening
 unfolding lent lentFault answerTo
-opening p hs ws e n w = unlessFault (lentFault p hs ws n w) (answerTo p e (lent (p .d) hs ws))
+opening p hs ws e n w l = unlessFault (lentFault p hs ws n w l) (answerTo p e (lent (p .d) hs ws))

@@ -10,7 +10,7 @@ ghost use Rattle.words.specs.Refusal.{kept};
 ghost use Rattle.galois.specs.Element.{held, point};
 ghost use Rattle.polynomial.specs.Polynomial.{value};
 ghost use Rattle.polynomial.specs.Rows.{coefs};
-ghost use Rattle.codewords.specs.Opening.{faultOf, secretInto, wrongInto};
+ghost use Rattle.codewords.specs.Opening.{faultOf, secretInto, wrongInto, lowestInto};
 ghost use Rattle.sharing.specs.Dealing.{elementsOf, dealt, dealFault};
 ghost use Rattle.sharing.specs.Opening.{lent, risingTo, lentFault, opening};
 
@@ -137,16 +137,19 @@ fn elements_ok(m: usize, d: usize, n: usize) -> bool
     n / d == m
 }
 
-// The refusals of lent shares ahead of 5, for outputs of n and of w words.
-fn lent_fault(p: words::Params, holders: &[u64], shares: &[u64], n: usize, w: usize) -> u8
-    ensures { λ r. ⌜ r ≡ lentFault p (now (holders .entry)) (now (shares .entry)) n w ⌝ }
+// The refusals of lent shares ahead of 5, for outputs of n and of w words and of l bytes.
+fn lent_fault(p: words::Params, holders: &[u64], shares: &[u64], n: usize, w: usize, l: usize) -> u8
+    ensures { λ r. ⌜ r ≡ lentFault p (now (holders .entry)) (now (shares .entry)) n w l ⌝ }
 {
     let fault = words::params_fault(p);
     if fault != 0 {
         return fault;
     }
     let sized = words::unless(elements_ok(holders.len(), p.d, shares.len()), words::LENGTH);
-    let outputs = words::first(words::length_fault(p.d, n), words::length_fault(1, w));
+    let outputs = words::first(
+        words::length_fault(p.d, n),
+        words::first(words::length_fault(1, w), words::length_fault(64, l)),
+    );
     let lengths = words::first(sized, outputs);
     if lengths != 0 {
         return lengths;
@@ -183,7 +186,8 @@ fn load_shares(d: usize, m: usize, shares: &[u64]) -> [[u64; 6]; 63]
 }
 
 // A job opened from lent shares: d words for each lent holder, and at most e of the shares wrong, as those with a wide word are. The job's words
-// go to an output of d words, the set of the wrong holders, bit i - 1 for holder i, to one of one word.
+// go to an output of d words, the set of the wrong holders, bit i - 1 for holder i, to one of one word, and the lowest bits at which their shares
+// differ, entry i - 1 for holder i, to one of 64 bytes.
 pub fn open_shares(
     p: words::Params,
     holders: &[u64],
@@ -191,24 +195,28 @@ pub fn open_shares(
     e: u64,
     out: &mut [u64],
     wrong: &mut [u64],
+    lowest: &mut [u8],
 ) -> u8
     ensures fault { λ r. ⌜ r ≡ faultOf (opening p (now (holders .entry)) (now (shares .entry)) e (length (now (out .entry)))
-        (length (now (wrong .entry)))) ⌝ }
+        (length (now (wrong .entry))) (length (now (lowest .entry)))) ⌝ }
     ensures out { λ _. ⌜ now (out .exit) ≡ secretInto (now (out .entry)) (opening p (now (holders .entry)) (now (shares .entry)) e
-        (length (now (out .entry))) (length (now (wrong .entry)))) ⌝ }
+        (length (now (out .entry))) (length (now (wrong .entry))) (length (now (lowest .entry)))) ⌝ }
     ensures wrong { λ _. ⌜ now (wrong .exit) ≡ wrongInto (p .k) (p .d) (lent (p .d) (now (holders .entry)) (now (shares .entry)))
         (now (wrong .entry)) (opening p (now (holders .entry)) (now (shares .entry)) e (length (now (out .entry)))
-        (length (now (wrong .entry)))) ⌝ }
+        (length (now (wrong .entry))) (length (now (lowest .entry)))) ⌝ }
+    ensures lowest { λ _. ⌜ now (lowest .exit) ≡ lowestInto (p .k) (p .d) (lent (p .d) (now (holders .entry)) (now (shares .entry)))
+        (now (lowest .entry)) (opening p (now (holders .entry)) (now (shares .entry)) e (length (now (out .entry)))
+        (length (now (wrong .entry))) (length (now (lowest .entry)))) ⌝ }
 {
-    let fault = lent_fault(p, holders, shares, out.len(), wrong.len());
+    let fault = lent_fault(p, holders, shares, out.len(), wrong.len(), lowest.len());
     if fault != 0 {
         return fault;
     }
     let m = holders.len();
-    let mut hs = load_holders(holders);
-    let mut ys = load_shares(p.d, m, shares);
+    let hs = load_holders(holders);
+    let ys = load_shares(p.d, m, shares);
     let mut rows = [[0u64; 6]; 64];
     let narrow = words::all_in_width(p.k, shares);
-    let opened = decoder::decode(p, m, &mut hs, &mut ys, narrow, e, &mut rows);
-    decoder::hand_out(p.d, opened, &rows, out, wrong)
+    let opened = decoder::decode(p, m, &hs, &ys, narrow, e, &mut rows);
+    decoder::hand_out(p, m, &hs, &ys, opened, &rows, out, wrong, lowest)
 }

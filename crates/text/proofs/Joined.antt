@@ -9,7 +9,7 @@ use lib.Seq.{drop-cons, getD-take, length-take-le}
 use Rattle.words.specs.declared.Signed.{Signed}
 use Rattle.words.specs.Signed.{signedOf}
 use lib.Count.{trailingZeros}
-use Rattle.text.specs.Text.{decimal, signedText, afterCommas, joined, holdersFrom, holders, holdersText, readings}
+use Rattle.text.specs.Text.{decimal, signedText, afterCommas, joined, holdersFrom, holders, holderText, holdersText, readings}
 use Rattle.text.proofs.Holders.{next-holder}
 
 -- what follows a comma is joined again
@@ -37,31 +37,32 @@ unfolding holdersFrom
 nobody i zero = refl
 nobody i (suc n) = nobody (suc i) n
 
-pub no-holders : (set : ℕ) → set ≡ 0 → holdersText set ≡ 45 ∷ []
+pub no-holders : (lowest : List ℕ) (set : ℕ) → set ≡ 0 → holdersText lowest set ≡ 45 ∷ []
 unfolding joined holders
-no-holders set e = rw (e, nobody 1 64)
+no-holders lowest set e = rw (e, nobody 1 64)
 
 -- the holders that are left once i bits of a set are off, and w is what is left of it
-abbrev pub restText : ℕ → ℕ → List ℕ
-restText i w = joined (map decimal (holdersFrom (i + 1) (64 - i) w))
+abbrev pub restText : List ℕ → ℕ → ℕ → List ℕ
+restText lowest i w = joined (map (holderText lowest) (holdersFrom (i + 1) (64 - i) w))
 
 -- those after the first of them
-abbrev pub afterText : ℕ → ℕ → List ℕ
-afterText i w = afterCommas (map decimal (holdersFrom (i + 1) (64 - i) w))
+abbrev pub afterText : List ℕ → ℕ → ℕ → List ℕ
+afterText lowest i w = afterCommas (map (holderText lowest) (holdersFrom (i + 1) (64 - i) w))
 
-pub holders-next : (i w : ℕ) → i ≤ 64 → 0 < w → w < 2 ^ (64 - i)
-    → restText i w
-    ≡ decimal (i + trailingZeros 64 w + 1) ++ afterText (i + trailingZeros 64 w + 1) (w / 2 ^ trailingZeros 64 w / 2)
+pub holders-next : (lowest : List ℕ) (i w : ℕ) → i ≤ 64 → 0 < w → w < 2 ^ (64 - i)
+    → restText lowest i w
+    ≡ holderText lowest (i + trailingZeros 64 w + 1) ++ afterText lowest (i + trailingZeros 64 w + 1) (w / 2 ^ trailingZeros 64 w / 2)
 unfolding joined
-holders-next i w q p h = rw (next-holder i w q p h)
+holders-next lowest i w q p h = rw (next-holder i w q p h)
 
-pub holders-last : (i w : ℕ) → w ≡ 0 → afterText i w ≡ []
+pub holders-last : (lowest : List ℕ) (i w : ℕ) → w ≡ 0 → afterText lowest i w ≡ []
 unfolding afterCommas
-holders-last i w e = rw (e, nobody (i + 1) (64 - i))
+holders-last lowest i w e = rw (e, nobody (i + 1) (64 - i))
 
-pub holders-comma : (i w : ℕ) → i ≤ 64 → 0 < w → w < 2 ^ (64 - i) → afterText i w ≡ (44 ∷ []) ++ restText i w
-holders-comma i w q p h =
-    comma (map decimal (holdersFrom (i + 1) (64 - i) w)) (rw (next-holder i w q p h) (zero-lt-suc _))
+pub holders-comma : (lowest : List ℕ) (i w : ℕ) → i ≤ 64 → 0 < w → w < 2 ^ (64 - i)
+    → afterText lowest i w ≡ (44 ∷ []) ++ restText lowest i w
+holders-comma lowest i w q p h =
+    comma (map (holderText lowest) (holdersFrom (i + 1) (64 - i) w)) (rw (next-holder i w q p h) (zero-lt-suc _))
 
 -- the texts of the first d words
 abbrev pub wordTexts : ℕ → ℕ → List ℕ → List (List ℕ)

@@ -7,11 +7,11 @@ use native.Mathlib.Nat.{pow-le-pow-right, le-trans}
 use native.Mathlib.Omega.{arith}
 use borrow.Author.Tests.{ltb-true}
 use lib.Dec.{ltb, eqb, lit<}
-use lib.ListN.{length, length-append}
+use lib.ListN.{length, getD, length-append}
 use lib.Count.{trailingZeros}
 use Rattle.words.specs.declared.Signed.{Signed}
 use Rattle.words.specs.Signed.{signedOf}
-use Rattle.text.specs.Text.{ascii, decimal, signedText, afterCommas, joined, holdersFrom, holders, holdersText, wordsText}
+use Rattle.text.specs.Text.{ascii, decimal, signedText, afterCommas, joined, holdersFrom, holders, holderText, holdersText, wordsText}
 use Rattle.text.specs.Text.{lineRoom, refusedLine, jobLine, openLine, declinedLine}
 use Rattle.text.specs.Text.{reportRoom, changedLine, changedLines, keptLine}
 use Rattle.text.proofs.Decimal.{decimal-length}
@@ -20,12 +20,12 @@ use Rattle.text.proofs.Joined.{nobody}
 
 -- ---- the parts
 
-pub open-parts : (number wrong : ℕ) (words : List Signed)
-    → openLine number wrong words
-    ≡ decimal number ++ ascii " open " ++ holdersText wrong ++ ascii " " ++ wordsText words ++ ascii "\n"
+pub open-parts : (number wrong : ℕ) (lowest : List ℕ) (words : List Signed)
+    → openLine number wrong lowest words
+    ≡ decimal number ++ ascii " open " ++ holdersText lowest wrong ++ ascii " " ++ wordsText words ++ ascii "\n"
 unfolding openLine jobLine
-open-parts number wrong words =
-    ap (λ (l : List ℕ). l ++ holdersText wrong ++ ascii " " ++ wordsText words ++ ascii "\n")
+open-parts number wrong lowest words =
+    ap (λ (l : List ℕ). l ++ holdersText lowest wrong ++ ascii " " ++ wordsText words ++ ascii "\n")
     (append-assoc (decimal number ++ ascii " ") (ascii "open") (ascii " ") ∙ append-assoc (decimal number) (ascii " ") (ascii "open "))
 
 pub declined-parts : (number state : ℕ) → declinedLine number state ≡ decimal number ++ ascii " " ++ decimal state ++ ascii " - -\n"
@@ -52,21 +52,39 @@ unfolding joined afterCommas
 joined-length [] = omega arith
 joined-length (text ∷ texts) = omega (arith, length-append text (afterCommas texts))
 
-holders-after : (i n set : ℕ) → i + n ≤ 100 → length (afterCommas (map decimal (holdersFrom i n set))) ≤ n * 3
-unfolding afterCommas holdersFrom
-holders-after i zero set h = omega arith
-holders-after i (suc n) set h = one (eqb (set % 2) 1) (holders-after (suc i) n (set / 2) (omega arith))
-  where
-    one : (b : Bool) → length (afterCommas (map decimal (holdersFrom (suc i) n (set / 2)))) ≤ n * 3
-        → length (afterCommas (map decimal (cond b (i ∷ []) [] ++ holdersFrom (suc i) n (set / 2)))) ≤ suc n * 3
-    one true r =
-        omega
-        (arith, r, decimal-length 1 i (omega arith), length-append (decimal i) (afterCommas (map decimal (holdersFrom (suc i) n (set / 2)))))
-    one false r = omega (arith, r)
+-- positions are bytes, of three digits at most
+module _ (lowest : List ℕ) (b : (i : ℕ) → getD lowest i 0 < 256) where
+  holder-length : (h : ℕ) → h < 100 → length (holderText lowest h) ≤ 6
+  unfolding holderText
+  holder-length h l =
+      let p = getD lowest (h - 1) 0 in
+      omega (
+        arith,
+        decimal-length 1 h (omega arith),
+        decimal-length 2 p (omega (arith, b (h - 1))),
+        length-append (decimal h) (ascii "/"),
+        length-append (decimal h ++ ascii "/") (decimal p),
+      )
 
-pub holders-length : (set : ℕ) → length (holdersText set) ≤ 193
-unfolding holders
-holders-length set = omega (arith, joined-length (map decimal (holders set)), holders-after 1 64 set (omega arith))
+  holders-after : (i n set : ℕ) → i + n ≤ 100 → length (afterCommas (map (holderText lowest) (holdersFrom i n set))) ≤ n * 7
+  unfolding afterCommas holdersFrom
+  holders-after i zero set h = omega arith
+  holders-after i (suc n) set h = one (eqb (set % 2) 1) (holders-after (suc i) n (set / 2) (omega arith))
+    where
+      one : (b : Bool) → length (afterCommas (map (holderText lowest) (holdersFrom (suc i) n (set / 2)))) ≤ n * 7
+          → length (afterCommas (map (holderText lowest) (cond b (i ∷ []) [] ++ holdersFrom (suc i) n (set / 2)))) ≤ suc n * 7
+      one true r =
+          omega (
+            arith,
+            r,
+            holder-length i (omega arith),
+            length-append (holderText lowest i) (afterCommas (map (holderText lowest) (holdersFrom (suc i) n (set / 2)))),
+          )
+      one false r = omega (arith, r)
+
+  pub holders-length : (set : ℕ) → length (holdersText lowest set) ≤ 449
+  unfolding holders
+  holders-length set = omega (arith, joined-length (map (holderText lowest) (holders set)), holders-after 1 64 set (omega arith))
 
 -- no word of k bits has a larger magnitude than 2^k
 magnitude-le : (k w : ℕ) → signedOf k w .magnitude ≤ 2 ^ k
@@ -105,18 +123,19 @@ pub words-length : (k : ℕ) (ws : List ℕ) → k ≤ 64 → length ws ≤ 6 �
 words-length k ws h l = omega (arith, joined-length (map signedText (map (signedOf k) ws)), words-after k ws h)
 
 -- every line fits into `lineRoom`
-pub open-length : (number wrong k : ℕ) (ws : List ℕ) → number < 2 ^ 64 → k ≤ 64 → length ws ≤ 6
-    → length (openLine number wrong (map (signedOf k) ws)) ≤ lineRoom
-open-length number wrong k ws h l m =
+pub open-length : (number wrong : ℕ) (lowest : List ℕ) (k : ℕ) (ws : List ℕ)
+    → number < 2 ^ 64 → ((i : ℕ) → getD lowest i 0 < 256) → k ≤ 64 → length ws ≤ 6
+    → length (openLine number wrong lowest (map (signedOf k) ws)) ≤ lineRoom
+open-length number wrong lowest k ws h b l m =
     let n = decimal number in
-    let v = holdersText wrong in
+    let v = holdersText lowest wrong in
     let w = wordsText (map (signedOf k) ws) in
     omega (
       arith,
       twenty number (omega arith),
-      holders-length wrong,
+      holders-length lowest b wrong,
       words-length k ws l m,
-      ap length (open-parts number wrong (map (signedOf k) ws)),
+      ap length (open-parts number wrong lowest (map (signedOf k) ws)),
       length-append n (ascii " open "),
       length-append (n ++ ascii " open ") v,
       length-append (n ++ ascii " open " ++ v) (ascii " "),

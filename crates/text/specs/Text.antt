@@ -1,11 +1,11 @@
--- The text of the listing as bytes, paper 01, "The opened bundle", and of the report of `mend`, paper 02, K2. Assumes nothing.
-use Prim.Native.Nat.{ℕ, zero, suc, _+_, _/_, _%_}
+-- The text of the listing as bytes, paper 01, "The opened bundle", and paper 02, K4; and of the report of `mend`, paper 02, K2. Assumes nothing.
+use Prim.Native.Nat.{ℕ, zero, suc, _+_, _-_, _/_, _%_}
 use Prim.Native.Char.{code}
 use Prim.Native.String.{String, [] as []ₛ, _∷_ as _∷ₛ_}
 use mathlib.Core.Bool.{cond}
 use mathlib.Core.List.{List, [], _∷_, _++_, map}
 use lib.Dec.{eqb}
-use lib.ListN.{length, take, drop}
+use lib.ListN.{length, take, drop, getD}
 use Rattle.words.specs.declared.Signed.{Signed}
 use Rattle.words.specs.Signed.{signedOf}
 
@@ -54,8 +54,13 @@ unfoldable pub holders : ℕ → List ℕ
 unfolding holdersFrom
 holders set = holdersFrom 1 64 set
 
-abbrev pub holdersText : ℕ → List ℕ
-holdersText set = joined (map decimal (holders set))
+-- "the listing prints the holder, a slash and the position" (paper 02, K4) of the lowest bit that differs, entry h - 1 for holder h
+unfoldable pub holderText : List ℕ → ℕ → List ℕ
+unfolding decimal
+holderText lowest h = decimal h ++ ascii "/" ++ decimal (getD lowest (h - 1) 0)
+
+abbrev pub holdersText : List ℕ → ℕ → List ℕ
+holdersText lowest set = joined (map (holderText lowest) (holders set))
 
 abbrev pub wordsText : List Signed → List ℕ
 wordsText words = joined (map signedText words)
@@ -64,9 +69,9 @@ wordsText words = joined (map signedText words)
 abbrev pub readings : ℕ → ℕ → List ℕ → List Signed
 readings k d words = map (signedOf k) (take d words)
 
--- what every line fits into
+-- what every line fits into, of words of 128 bits (paper 02, K13) as well
 abbrev pub lineRoom : ℕ
-lineRoom = 400
+lineRoom = 1024
 
 -- "The first is `job state wrong words`."
 abbrev pub headLine : List ℕ
@@ -83,10 +88,10 @@ unfoldable pub jobLine : ℕ → List ℕ → List ℕ → List ℕ → List ℕ
 unfolding decimal
 jobLine number state wrong words = decimal number ++ ascii " " ++ state ++ ascii " " ++ wrong ++ ascii " " ++ words ++ ascii "\n"
 
--- a job that opened: "10 open 3 -3,2"
-unfoldable pub openLine : ℕ → ℕ → List Signed → List ℕ
-unfolding decimal signedText joined holders jobLine
-openLine number wrong words = jobLine number (ascii "open") (holdersText wrong) (wordsText words)
+-- a job that opened: "10 open 3/2 -3,2"
+unfoldable pub openLine : ℕ → ℕ → List ℕ → List Signed → List ℕ
+unfolding decimal signedText joined holders holderText jobLine
+openLine number wrong lowest words = jobLine number (ascii "open") (holdersText lowest wrong) (wordsText words)
 
 -- and one that did not, with `-` twice: "11 6 - -"
 unfoldable pub declinedLine : ℕ → ℕ → List ℕ

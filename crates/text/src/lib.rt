@@ -5,12 +5,12 @@ ghost use mathlib.Core.List.{[], _∷_};
 ghost use Prim.Native.Nat.{_+_, _≤_};
 ghost use lib.ListN.{length, take};
 ghost use Rattle.words.specs.Word.{allInWidth};
-ghost use Rattle.text.specs.Text.{written, decimal, signedText, holdersText, wordsText, readings};
+ghost use Rattle.text.specs.Text.{written, decimal, signedText, holderText, holdersText, wordsText, readings};
 ghost use Rattle.text.specs.Text.{lineRoom, headLine, refusedLine, openLine, declinedLine};
 ghost use Rattle.text.specs.Text.{holders, reportRoom, changedLine, changedLines, keptLine};
 
 // Every line fits into so many bytes: the definition's lineRoom.
-pub const LINE: usize = 400;
+pub const LINE: usize = 1024;
 
 // The lines of a job in the report of `mend` fit into so many: the definition's reportRoom.
 pub const REPORT: usize = 2048;
@@ -58,10 +58,22 @@ pub fn put_signed(out: &mut [u8], at: usize, s: words::Signed) -> usize
     put_decimal(out, at, s.magnitude)
 }
 
-// The holders of a set, rising, joined by commas: each turn writes the lowest one and takes it off.
-pub fn put_holders(out: &mut [u8], at: usize, set: u64) -> usize
-    requires { ⌜ at + length (holdersText set) ≤ length (now out) ⌝ }
-    ensures { λ r. ⌜ (now (out .exit) ≡ written at (holdersText set) (now (out .entry))) × (r ≡ at + length (holdersText set)) ⌝ }
+// A holder, a slash and the position of the lowest bit at which its share differs.
+fn put_holder(out: &mut [u8], at: usize, holder: u64, lowest: &[u8]) -> usize
+    requires { ⌜ ((1 ≤ holder) × (holder ≤ length (now lowest))) × (at + length (holderText (now lowest) holder) ≤ length (now out)) ⌝ }
+    ensures { λ r. ⌜ (now (out .exit) ≡ written at (holderText (now (lowest .entry)) holder) (now (out .entry)))
+        × (r ≡ at + length (holderText (now (lowest .entry)) holder)) ⌝ }
+{
+    let p = put_decimal(out, at, holder);
+    let q = put_byte(out, p, b'/');
+    put_decimal(out, q, lowest[(holder - 1) as usize] as u64)
+}
+
+// The holders of a set with their positions, rising, joined by commas: each turn writes the lowest one and takes it off.
+pub fn put_holders(out: &mut [u8], at: usize, set: u64, lowest: &[u8]) -> usize
+    requires { ⌜ (length (now lowest) ≡ 64) × (at + length (holdersText (now lowest) set) ≤ length (now out)) ⌝ }
+    ensures { λ r. ⌜ (now (out .exit) ≡ written at (holdersText (now (lowest .entry)) set) (now (out .entry)))
+        × (r ≡ at + length (holdersText (now (lowest .entry)) set)) ⌝ }
 {
     if set == 0 {
         return put_byte(out, at, b'-');
@@ -73,7 +85,7 @@ pub fn put_holders(out: &mut [u8], at: usize, set: u64) -> usize
         let z = u64::trailing_zeros(w) as u64;
         i = i + z + 1;
         w = (w >> z) >> 1;
-        p = put_decimal(out, p, i);
+        p = put_holder(out, p, i, lowest);
         if w == 0 {
             return p;
         }
@@ -124,17 +136,19 @@ pub fn put_open_line(
     at: usize,
     number: u64,
     wrong: u64,
+    lowest: &[u8],
     k: u64,
     d: usize,
     words: [u64; 6],
 ) -> usize
-    requires { ⌜ ((1 ≤ k) × (k ≤ 64)) × ((1 ≤ d) × (d ≤ 6)) × (allInWidth k (take d words) ≡ true) × (at + lineRoom ≤ length (now out)) ⌝ }
-    ensures { λ r. ⌜ (now (out .exit) ≡ written at (openLine number wrong (readings k d words)) (now (out .entry)))
-        × (r ≡ at + length (openLine number wrong (readings k d words))) ⌝ }
+    requires { ⌜ ((1 ≤ k) × (k ≤ 64)) × ((1 ≤ d) × (d ≤ 6)) × (allInWidth k (take d words) ≡ true)
+        × (length (now lowest) ≡ 64) × (at + lineRoom ≤ length (now out)) ⌝ }
+    ensures { λ r. ⌜ (now (out .exit) ≡ written at (openLine number wrong (now (lowest .entry)) (readings k d words)) (now (out .entry)))
+        × (r ≡ at + length (openLine number wrong (now (lowest .entry)) (readings k d words))) ⌝ }
 {
     let p = put_decimal(out, at, number);
     let q = put_bytes(out, p, b" open ");
-    let r = put_holders(out, q, wrong);
+    let r = put_holders(out, q, wrong, lowest);
     let s = put_byte(out, r, b' ');
     let t = put_words(out, s, k, d, words);
     put_byte(out, t, b'\n')

@@ -5,7 +5,7 @@ use mathlib.Core.Path.{_≡_, refl, sym, ap, ap₂, _∙_}
 use mathlib.Core.Bool.{true}
 use mathlib.Core.List.{List, [], _∷_, _++_, append-nil}
 use Prim.Native.Nat.{ℕ, zero, suc, _+_, _-_, _/_, _%_, _^_, _≤_, _<_}
-use native.Mathlib.Nat.{le-of-eq, le-refl, suc-inj, suc-ne-zero, zero-mod, mod-lt, mod-add-div, mod-eq-of-lt, mod-add-mod, add-mod-mod}
+use native.Mathlib.Nat.{le-of-eq, le-refl, suc-inj, suc-ne-zero, mod-lt, mod-add-div, mod-eq-of-lt, mod-add-mod, add-mod-mod}
 use native.Mathlib.Nat.{add-mul-mod-self-left}
 use native.Mathlib.Numerals.{add-one}
 use native.Mathlib.Omega.{arith}
@@ -29,12 +29,6 @@ use Rattle.totals.proofs.Words.{padded}
 
 pub zip-count : (f : ℕ → ℕ → ℕ) (a b : Element) → length b ≤ length a → length (zip f a b) ≡ length b
 zip-count f a b u = ap length (sym (zip-short f (length b) a b (le-refl _))) ∙ length-zip f (take (length b) a) b (length-take-le (length b) a u)
-
-pub reduce-at : (k : ℕ) (a : Element) (j : ℕ) → getD (reduce k a) j 0 ≡ getD a j 0 % 2 ^ k
-unfolding reduce
-reduce-at k [] j = sym (zero-mod (2 ^ k))
-reduce-at k (x ∷ a) zero = refl
-reduce-at k (x ∷ a) (suc j) = reduce-at k a j
 
 -- a loop that changes each word where it stands: word j of s is what f makes of the word that is there
 pub fill-here : (f : ℕ → ℕ) (old s x : List ℕ) (j v : ℕ) → x ≡ paste old 0 s j → j < length s → length s ≤ length old →

@@ -1,12 +1,14 @@
 -- The loop of `load_holders`: the holders passed are in their places. Assumes nothing.
 use borrow.Author.Needs.{needs}
 use native.Mathlib.Omega.{arith}
-use mathlib.Core.Path.{_≡_}
+use mathlib.Core.Path.{_≡_, ap, _∙_}
+use mathlib.Core.List.{_++_}
 use Prim.Native.Nat.{ℕ, _-_, _≤_}
-use lib.ListN.{length, replicate, length-replicate}
+use lib.ListN.{length, drop, replicate, length-replicate}
 use denote.Ref.{now}
 use Rattle.bundle.specs.Bundle.{holderOf}
 use Rattle.bundle.proofs.Bundles.{bundle-ok, files-most}
+use Rattle.totals.specs.Values.{valuesFrom}
 use Rattle.totals.proofs.Values.{filled, values-start, values-next, values-done}
 use Rattle.archive.proofs.load_holders.Statement.{statement}
 use Rattle.archive.proofs.load_holders.Tie as tie
@@ -58,6 +60,7 @@ returns c =
     let l = c .before in
     let e : l .loop .f ≡ s .args .files = omega arith in
     values-done (holderOf (now (s .args .bytes))) (s .args .files) (replicate 63 0) (l .loop .holders) (l .loop .f) (l .loop .inv .1) e
+    ∙ ap (λ m. valuesFrom (holderOf (now (s .args .bytes))) 0 m ++ drop m (replicate 63 0)) (s .pre .2)
 
 pub load-holders-spec : {M : Type 1} → statement M
 load-holders-spec =

@@ -4,13 +4,18 @@ use native.Mathlib.Omega.{arith}
 use mathlib.Core.Path.{_≡_, sym, _∙_, ap}
 use mathlib.Core.List.{[]}
 use Prim.Native.Nat.{_-_, _≤_, _<_}
-use lib.ListN.{length, getD, take}
+use native.Mathlib.Nat.{le-of-eq}
+use lib.ListN.{length, getD, take, replicate}
+use lib.Seq.{take-all}
+use Rattle.galois.specs.Element.{Element}
+use Rattle.polynomial.proofs.Shape.{shaped-row}
 use Rattle.codewords.specs.Codeword.{differs}
+use Rattle.codewords.specs.Comparison.{gap}
 use Rattle.codewords.proofs.Without.{setOf, errorSet-tally}
 use Rattle.level.specs.Shares.{shareAt, sharesFrom, sharesOf}
-use Rattle.level.proofs.Shares.{from-end, sized-at}
+use Rattle.level.proofs.Shares.{from-end}
 use Rattle.decoder.specs.Residues.{bitsOf, bitsOfAll}
-use Rattle.decoder.proofs.Lowest.{sixBits, bits-six}
+use Rattle.decoder.proofs.Lowest.{bits-gap}
 use Rattle.decoder.proofs.Collected.{set-start, holder-low, holder-high, set-same, set-more}
 use Rattle.decoder.proofs.Compared.{differs-false, differs-true, bits-start, bits-more}
 use Rattle.decoder.proofs.compare.Statement.{statement}
@@ -26,15 +31,18 @@ abbrev μ-loop : tie.MeasureT-loop
 most : 6 ≤ 6
 most = omega arith
 
--- the row that is looked at
-six : (l : tie.At-loop Inv-loop μ-loop) → 0 < l .loop .i → length (take 6 (getD (l .before .args .rest .now) (l .loop .i - 1) [])) ≡ 6
-six l h =
-    let a = l .before .args in
-    sized-at 6 (a .hs .now) (a .rest .now) (a .m) (l .loop .i - 1) (l .before .pre .2) (omega (arith, l .loop .inv .0))
+-- the row that is looked at, and its bits
+abbrev row : tie.At-loop Inv-loop μ-loop → Element
+row l = getD (l .before .args .rest .now) (l .loop .i - 1) []
 
-bits-at : (l : tie.At-loop Inv-loop μ-loop) → 0 < l .loop .i →
-    (let u = getD (l .before .args .rest .now) (l .loop .i - 1) [] in sixBits u ≡ bitsOf (take 6 u))
-bits-at l h = bits-six (getD (l .before .args .rest .now) (l .loop .i - 1) []) (six l h)
+six : (l : tie.At-loop Inv-loop μ-loop) → 0 < l .loop .i → length (row l) ≡ 6
+six l h = shaped-row (l .before .args .rest .now) (l .loop .i - 1) (l .before .pre .2) (omega (arith, l .loop .inv .0, l .before .pre .0))
+
+whole : (l : tie.At-loop Inv-loop μ-loop) → 0 < l .loop .i → take 6 (row l) ≡ row l
+whole l h = take-all 6 (row l) (le-of-eq (six l h))
+
+bits-at : (l : tie.At-loop Inv-loop μ-loop) → 0 < l .loop .i → gap (row l) (replicate 6 0) ≡ bitsOf (take 6 (row l))
+bits-at l h = ap (λ n. gap (row l) (replicate n 0)) (sym (six l h)) ∙ bits-gap (row l) ∙ ap bitsOf (sym (whole l h))
 
 loop-holds : tie.Need-loop-holds Inv-loop μ-loop
 loop-holds c =
@@ -46,43 +54,45 @@ loop-holds c =
 
 sub-set : tie.Need-sub-set Inv-loop μ-loop
 sub-set c =
-    let l = c .before .before .before .before in
+    let l = c .before .before .before .before .before in
     let a = l .before .args in
     omega (arith, holder-low 6 most (differs 64 6 []) (a .m) (a .hs .now) (a .rest .now) (l .before .pre .1) (l .loop .i) (omega arith) (l .loop .inv .0))
 
 shl-set : tie.Need-shl-set Inv-loop μ-loop
 shl-set c =
-    let l = c .before .before .before .before in
+    let l = c .before .before .before .before .before in
     let a = l .before .args in
     omega (arith, holder-high 6 most (differs 64 6 []) (a .m) (a .hs .now) (a .rest .now) (l .before .pre .1) (l .loop .i) (omega arith) (l .loop .inv .0))
 
 loop-again : tie.Need-loop-again Inv-loop μ-loop
 loop-again c =
-    let l = c .before .before .before .before in
+    let g = c .before .before in
+    let l = g .before .before .before in
     let a = l .before .args in
     let h = a .hs .now in
     let r = a .rest .now in
     let i = l .loop .i in
-    let b = bits-at l (omega arith) in (
+    let b = g .gap .ensures ∙ bits-at l (omega arith) in (
       omega arith,
       set-more 6 most (differs 64 6 []) (a .m) h r (l .before .pre .1) i (omega arith) (l .loop .inv .0)
           (differs-true (shareAt 6 h r (i - 1)) (λ z. c .before .if1 .taken (b ∙ z))) (l .loop .set) (l .loop .inv .1),
-      bits-more (a .m) h r i (omega arith) (l .loop .inv .0) (sixBits (getD r (i - 1) [])) (l .loop .bits) b (l .loop .inv .2),
+      bits-more (a .m) h r i (omega arith) (l .loop .inv .0) (g .gap .result) (l .loop .bits) b (l .loop .inv .2),
     )
 
 loop-again-2 : tie.Need-loop-again-2 Inv-loop μ-loop
 loop-again-2 c =
-    let l = c .before .before .before in
+    let g = c .before in
+    let l = g .before .before .before in
     let a = l .before .args in
     let h = a .hs .now in
     let r = a .rest .now in
     let i = l .loop .i in
-    let b = bits-at l (omega arith) in (
+    let b = g .gap .ensures ∙ bits-at l (omega arith) in (
       omega arith,
       l .loop .inv .1
           ∙ set-same 6 most (differs 64 6 []) (a .m) h r (l .before .pre .1) i (omega arith) (l .loop .inv .0)
-          (differs-false (shareAt 6 h r (i - 1)) (six l (omega arith)) (sym b ∙ c .if1 .left)),
-      bits-more (a .m) h r i (omega arith) (l .loop .inv .0) (sixBits (getD r (i - 1) [])) (l .loop .bits) b (l .loop .inv .2),
+          (differs-false (shareAt 6 h r (i - 1)) (ap length (whole l (omega arith)) ∙ six l (omega arith)) (sym b ∙ c .if1 .left)),
+      bits-more (a .m) h r i (omega arith) (l .loop .inv .0) (g .gap .result) (l .loop .bits) b (l .loop .inv .2),
     )
 
 returns : tie.Need-returns Inv-loop μ-loop
@@ -103,12 +113,7 @@ compare-spec =
     (λ c. search needs)
     (λ c. search needs)
     (λ c. search needs)
-    (λ c. search needs)
-    (λ c. search needs)
-    (λ c. search needs)
-    (λ c. search needs)
-    (λ c. search needs)
-    (λ c. search needs)
+    (λ c κs. search needs)
     (λ c. search needs)
     (λ c. search needs)
     sub-set

@@ -33,7 +33,7 @@ enough : (c : tie.Else2) → let s = c .before .before .before .before in s .arg
 enough c = omega (arith, c .if2 .left, c .before .before .if1 .left)
 
 returns : tie.Need-returns
-returns c = let s = c .before .before in rw (few s (omega (arith, c .if1 .taken))) (refl, (refl, (s .pre .7, (s .pre .5, s .pre .6))))
+returns c = let s = c .before .before in rw (few s (omega (arith, c .if1 .taken))) (refl, (refl, s .pre .7))
 
 sub-if2 : tie.Need-sub-if2
 sub-if2 c = search needs
@@ -44,7 +44,7 @@ sub-if2-2 c = search needs
 returns-2 : tie.Need-returns-2
 returns-2 c =
     let s = c .before .before .before .before in
-    rw (few s (omega (arith, c .before .before .if1 .left, c .if2 .taken))) (refl, (refl, (s .pre .7, (s .pre .5, s .pre .6))))
+    rw (few s (omega (arith, c .before .before .if1 .left, c .if2 .taken))) (refl, (refl, s .pre .7))
 
 -- what both searches ask
 asks : (c : tie.Else2) →
@@ -62,29 +62,29 @@ asks c =
       (all-map (λ x h. (h .0, omega (arith, h .1, r .n-high))) (ss s) (s .pre .2 .0), rising-different (ss s) (s .pre .2 .1)),
     )
 
-search-requires : tie.Need-search-requires
-search-requires c κs =
-    let n = c .before .before .before in
+search-lent-requires : tie.Need-search-lent-requires
+search-lent-requires c κs =
+    let n = c .before in
     let s = n .before .before .before .before .before in
     let a = asks (n .before) in
     (a .0, a .1, a .2, s .pre .1, a .3, a .4, s .pre .2 .1, s .pre .4 (n .if3 .taken), s .pre .5, s .pre .6, s .pre .7)
 
 returns-3 : tie.Need-returns-3
 returns-3 c =
-    let f = c .before .before .before .before .before in
+    let f = c .before .before .before in
     let s = f .before .before .before .before in
-    rw (answer-from (s .args .p) (s .args .e) (ss s) (rw (count s) (enough f))) (c .search .ensures)
+    rw (answer-from (s .args .p) (s .args .e) (ss s) (rw (count s) (enough f))) (c .search-lent .ensures)
 
 search-in-width-requires : tie.Need-search-in-width-requires
 search-in-width-requires c κs =
-    let n = c .before .before .before in
+    let n = c .before in
     let s = n .before .before .before .before .before in
     let a = asks (n .before) in
     (a .0, a .1, a .2, s .pre .1, a .3, a .4, s .pre .2 .1, s .pre .3, s .pre .5, s .pre .6, s .pre .7)
 
 returns-4 : tie.Need-returns-4
 returns-4 c =
-    let f = c .before .before .before .before .before in
+    let f = c .before .before .before in
     let s = f .before .before .before .before in
     rw (answer-from (s .args .p) (s .args .e) (ss s) (rw (count s) (enough f))) (c .search-in-width .ensures)
 
@@ -96,7 +96,7 @@ decode-spec =
     sub-if2
     sub-if2-2
     returns-2
-    search-requires
+    search-lent-requires
     returns-3
     search-in-width-requires
     returns-4)

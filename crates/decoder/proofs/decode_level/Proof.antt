@@ -50,7 +50,7 @@ left-of c =
 compare-requires : tie.Need-compare-requires
 compare-requires c κs =
     let b = c .before in
-    (b .before .before .pre .3, left-of b .holders-six, left-of b .sized-six)
+    (b .before .before .pre .3, left-of b .holders-six, left-of b .shaped)
 
 -- once they are compared with zero
 abbrev start : tie.After-compare → tie.Start

@@ -2,8 +2,10 @@
 use mathlib.Core.Path.{_≡_, refl, sym, _∙_}
 use mathlib.Core.List.{List, [], _∷_, _++_, append-nil}
 use Prim.Native.Nat.{ℕ, _+_}
+use native.Mathlib.Omega.{arith}
 use native.Mathlib.Nat.{zero-add, le-of-eq, suc-ne-zero, suc-inj}
 use lib.ListN.{length, take, drop, getD, set, drop-of-length-le}
+use Rattle.words.proofs.InRange.{ok-range}
 use Rattle.words.proofs.Refusal.{kept-none, kept-some}
 use borrow.Author.Needs.{needs}
 use Rattle.decoder.proofs.hand_out.Statement.{statement}
@@ -20,20 +22,41 @@ single (x ∷ y ∷ s) w e = absurd (suc-ne-zero (length s) (suc-inj e))
 
 returns : tie.Need-returns
 returns c =
-    let s = c .before .before .before .before in
-    let f = c .if1 .taken in
-    (refl, (sym (kept-some (s .args .opened .fault) (s .args .out .now) _ f), sym (kept-some (s .args .opened .fault) (s .args .wrong .now) _ f)))
+    let a = c .before .before .before .before .before .args in
+    let f = c .if1 .taken in (
+      refl,
+      (
+        sym (kept-some (a .opened .fault) (a .out .now) _ f),
+        (sym (kept-some (a .opened .fault) (a .wrong .now) _ f), sym (kept-some (a .opened .fault) (a .lowest .now) _ f)),
+      ),
+    )
+
+store-requires : tie.Need-store-requires
+store-requires c κs =
+    let s = c .before .before .before .before .before .before .before in
+    let r = ok-range (s .args .p) (s .pre .0) in
+    ((r .d-low, r .d-high), omega (arith, s .pre .4))
+
+lowest-bits-requires : tie.Need-lowest-bits-requires
+lowest-bits-requires c κs =
+    let s = c .before .before .before .before .before .before .before .before .before .before .before in
+    let p = s .pre in
+    (p .0, p .1, p .2, p .3, p .6, p .7 (c .before .before .before .before .before .before .if1 .left))
 
 returns-2 : tie.Need-returns-2
 returns-2 c =
-    let s = c .before .before .before .before .before .before .before .before .before in
-    let f = c .before .before .before .before .before .if1 .left in (
+    let l = c .before .before in
+    let t = l .before .before .before .before in
+    let s = t .before .before .before .before .before .before .before .before in
+    let a = s .args in
+    let f = t .before .before .before .if1 .left in (
       sym f,
       (
-        c .before .before .store .ensures
-            ∙ over (s .args .d) (s .args .out .now) (getD (s .args .rows .now) 0 []) (s .pre .2)
-            ∙ sym (kept-none (s .args .opened .fault) (s .args .out .now) _ f),
-        single (s .args .wrong .now) (s .args .opened .wrong) (s .pre .3) ∙ sym (kept-none (s .args .opened .fault) (s .args .wrong .now) _ f),
+        t .store .ensures ∙ over (a .p .d) (a .out .now) (getD (a .rows .now) 0 []) (s .pre .4) ∙ sym (kept-none (a .opened .fault) (a .out .now) _ f),
+        (
+          single (a .wrong .now) (a .opened .wrong) (s .pre .5) ∙ sym (kept-none (a .opened .fault) (a .wrong .now) _ f),
+          l .lowest-bits .ensures ∙ sym (kept-none (a .opened .fault) (a .lowest .now) _ f),
+        ),
       ),
     )
 
@@ -43,7 +66,9 @@ hand-out-spec =
     (tie.spec
     returns
     (λ c. search needs)
-    (λ c κs. search needs)
+    store-requires
+    (λ c. search needs)
+    lowest-bits-requires
     (λ c. search needs)
     (λ c. search needs)
     (λ c. search needs)

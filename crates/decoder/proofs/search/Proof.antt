@@ -6,31 +6,26 @@ use mathlib.Core.Path.{_≡_, refl, _∙_, ap}
 use mathlib.Core.Bool.{Bool, true, false}
 use mathlib.Core.List.{List}
 use Prim.Native.Nat.{ℕ, suc, _+_, _*_, _≤_}
-use native.Mathlib.Numerals.{add-one}
 use lib.ListN.{length, take}
-use Rattle.algebra.proofs.Shares.{all-take}
 use Rattle.polynomial.specs.Rows.{Rows, Shaped}
 use Rattle.codewords.specs.Codeword.{Share}
-use Rattle.codewords.specs.WellFormed.{Holders, InWidth}
-use Rattle.codewords.proofs.Without.{holders-take}
 use Rattle.level.specs.Shares.{sharesOf}
 use Rattle.level.proofs.Shares.{length-from, holders-numbered}
 use Rattle.decoder.specs.declared.Found.{Found}
 use Rattle.decoder.specs.declared.Found.the-variants.{Wrong, Nothing}
 use Rattle.decoder.proofs.Arrays.{take-of}
-use Rattle.decoder.proofs.Rows.{zero-shaped}
 use Rattle.decoder.proofs.Rounds.{Sought, Jumped, Round, start, round}
 use Rattle.decoder.proofs.search.Statement.{statement}
 use Rattle.decoder.proofs.search.Tie as tie
 
 abbrev Inv-loop : tie.InvT-loop
-Inv-loop k d t m hs₀ ys₀ e rows₀ wrong₀ bound₀ count₀ q₀ hs ys rows wrong bound count q =
+Inv-loop k d t m hs₀ ys₀ e rows₀ wrong₀ bound₀ count₀ hs ys rows wrong bound count =
     (count ≤ 63) × (length hs ≡ 63) × (length ys ≡ 63)
     × Sought k d t e (sharesOf d m hs₀ ys₀) bound wrong (sharesOf d count hs ys)
-    × Shaped q × Shaped rows
+    × Shaped rows
 
 abbrev μ-loop : tie.MeasureT-loop
-μ-loop k d t m hs₀ ys₀ e rows₀ wrong₀ bound₀ count₀ q₀ hs ys rows wrong bound count q = bound
+μ-loop k d t m hs₀ ys₀ e rows₀ wrong₀ bound₀ count₀ hs ys rows wrong bound count = bound
 
 -- the shares that are still in, at the head of the loop; there are t + 1 of them at least
 abbrev Head : Type 0
@@ -56,45 +51,27 @@ loop-holds c =
       c .pre .9,
       start (a .d) (omega arith) (omega arith) (a .k) (a .t) (a .e) (sharesOf (a .d) (a .m) (a .hs .now) (a .ys .now)) (c .pre .5) (c .pre .6)
           (c .pre .7) (rw (length-from (a .d) (a .hs .now) (a .ys .now) 0 (a .m)) (c .pre .4)),
-      zero-shaped,
       c .pre .10,
     )
 
-interpolate-requires : tie.Need-interpolate-requires Inv-loop μ-loop
-interpolate-requires c κs =
-    let l = c .before .before .before .before in
-    let s = l .before in
-    let a = s .args in
-    let n = suc (a .t) in
-    let v = l .loop .inv in
-    let h : Holders (a .d) (sharesOf (a .d) n (l .loop .hs) (l .loop .ys)) = rw (← first l) (holders-take (a .d) n (inside l) (v .3 .holders)) in
-    let w : InWidth (a .k) (a .d) (sharesOf (a .d) n (l .loop .hs) (l .loop .ys)) = rw (← first l) (all-take (λ x y. y) n (inside l) (v .3 .width)) in
-    (s .pre .0, s .pre .1, s .pre .2, h, w, v .4, v .5)
-
-decode-level-requires : tie.Need-decode-level-requires Inv-loop μ-loop
-decode-level-requires c κs =
-    let r = c .before .before .before in
-    let i = r .before .before in
-    let l = i .before .before .before .before .before in
+round-requires : tie.Need-round-requires Inv-loop μ-loop
+round-requires c κs =
+    let l = c .before .before .before in
     let p = l .before .pre in
     let v = l .loop .inv in
-    let e = r .clear-rows .ensures in
-    (p .0, p .1, p .2, v .0, enough l, v .3 .holders, v .3 .width, i .interpolate .ensures .0, e .1, rw (add-one (l .before .args .t)) at (e .0))
+    (p .0, p .1, p .2, v .0, enough l, v .3 .holders, v .3 .width, v .4)
 
--- what a level gave
+-- what a round gave
 abbrev Given : Type 0
-Given = tie.After-decode-level Inv-loop μ-loop
-
-abbrev interpolated : Given → tie.After-interpolate Inv-loop μ-loop
-interpolated c = c .before .before .before .before .before .before
+Given = tie.After-round Inv-loop μ-loop
 
 abbrev head : Given → Head
-head c = interpolated c .before .before .before .before .before
+head c = c .before .before .before .before
 
 abbrev rows : Given → Rows
-rows c = interpolated c .interpolate .last .1 .1 .1 .1 .1 .0
+rows c = c .round .last .1 .1 .1 .1 .1 .1 .1 .0
 
-level : (c : Given) (got : Found) → c .decode-level .result ≡ got →
+level : (c : Given) (got : Found) → c .round .result ≡ got →
     (let l = head c in
     let a = l .before .args in
     Round (a .k) (a .d) (a .t) (a .e) (whole l) (l .loop .bound) (l .loop .wrong) (inside l) (rows c) got)
@@ -103,15 +80,14 @@ level c got x =
     let a = l .before .args in
     let p = l .before .pre in
     round (a .d) (p .1 .0) (p .1 .1) (a .k) (a .t) (a .e) (whole l) (l .loop .bound) (l .loop .wrong) (inside l) (l .loop .inv .3) (rows c)
-    (rw (first l) (interpolated c .interpolate .ensures .0)) (p .0 .1) (c .decode-level .result) got
-    (c .decode-level .ensures .0 .0) x
+    (rw (first l) (c .round .ensures .0)) (p .0 .1) (c .round .result) got (c .round .ensures .1 .0) x
 
 returns : tie.Need-returns Inv-loop μ-loop
 returns c =
     let g = c .before .before in
     let r = level g Nothing (c .enum-told .given .1) in
     let v = head g .loop .inv in
-    (r .0, (r .1, (g .decode-level .ensures .1, (v .1, v .2))))
+    (r .0, (r .1, (g .round .ensures .1 .1, (v .1, v .2))))
 
 -- holders are named
 abbrev Named : Type 0
@@ -140,7 +116,7 @@ returns-2 c =
     let n = c .before in
     let r = wrong-level n true (c .if1 .taken) .1 in
     let v = head (given n) .loop .inv in
-    (r .0, (r .1, (interpolated (given n) .interpolate .ensures .1, (v .1, v .2))))
+    (r .0, (r .1, (given n .round .ensures .1 .1, (v .1, v .2))))
 
 -- some of them only
 jumped : (c : tie.Else1 Inv-loop μ-loop) →
@@ -176,8 +152,7 @@ loop-again c =
       e .2,
       e .3,
       rw (e .0 (l .before .args .d)) (jumped f .next),
-      interpolated g .interpolate .ensures .1,
-      g .decode-level .ensures .1,
+      g .round .ensures .1 .1,
     )
 
 pub search-spec : {M : Type 1} → statement M
@@ -187,10 +162,7 @@ search-spec =
     Inv-loop
     μ-loop
     loop-holds
-    interpolate-requires
-    (λ c. search needs)
-    (λ c κs. search needs)
-    decode-level-requires
+    round-requires
     (λ c. search needs)
     (λ c. search needs)
     returns

@@ -12,22 +12,18 @@ use Rattle.mending.proofs.mend_place.Tie as tie
 
 -- where the place has been opened
 abbrev S : tie.After-place-opening → tie.Start
-S c = c .before .before .before .before
+S c = c .before .before .before .before .before .before .before
 
 abbrev bs : tie.After-place-opening → List ℕ
 bs c = now (S c .args .bytes)
 
 abbrev rows : tie.After-place-opening → Rows
-rows c = c .place-opening .last .1 .1 .1 .1 .0
+rows c = c .place-opening .last .1 .1 .1 .1 .1 .1 .0
 
 place-opening-requires : tie.Need-place-opening-requires
-place-opening-requires c κs = let s = c .before .before .before in (s .pre .0, s .pre .1, s .pre .2, s .pre .3, zero-shaped)
-
-mend-files-requires : tie.Need-mend-files-requires
-mend-files-requires c κs = search needs
-
-same-length : tie.Need-same-length
-same-length c = search needs
+place-opening-requires c κs =
+    let s = c .before .before .before .before .before .before in
+    (s .pre .0, s .pre .1, s .pre .2, s .pre .3, c .before .before .before .load-holders .ensures, search needs, zero-shaped)
 
 returns : tie.Need-returns
 returns c =
@@ -36,8 +32,15 @@ returns c =
     let p = s .args .h .params in
     let o = a .place-opening in
     let g = handed (p .k) (p .d) (p .t) (sharesAt (bs a) (s .args .place)) (o .result .fault) (rows a) (o .result .wrong)
-    (placeOpening (bs a) (s .args .place)) (o .ensures .1 .1) (o .ensures .0) (o .ensures .1 .0) in
+    (placeOpening (bs a) (s .args .place)) (o .ensures .1 .1 .1) (o .ensures .0) (o .ensures .1 .0) in
     (g .fault, (o .ensures .1 .0, c .before .before .mend-files .ensures))
 
 pub mend-place-spec : {M : Type 1} → statement M
-mend-place-spec = tie.close (tie.spec place-opening-requires mend-files-requires same-length returns)
+mend-place-spec =
+    tie.close
+    (tie.spec
+    (λ c κs. search needs)
+    place-opening-requires
+    (λ c κs. search needs)
+    (λ c. search needs)
+    returns)

@@ -12,7 +12,7 @@ use Rattle.open.proofs.print.Statement.{statement}
 use Rattle.open.proofs.print.Tie as tie
 
 abbrev Inv-loop : tie.InvT-loop
-Inv-loop bytes line₀ printer₀ t6 line printer = (printer ≡ printerAt bytes (printer .next)) × (length line ≡ 400)
+Inv-loop bytes line₀ printer₀ t6 line printer = (printer ≡ printerAt bytes (printer .next)) × (length line ≡ 1024)
 
 abbrev μ-loop : tie.MeasureT-loop
 μ-loop bytes line₀ printer₀ t6 line printer = piecesIn bytes - printer .next

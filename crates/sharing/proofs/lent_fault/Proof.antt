@@ -7,7 +7,8 @@ use lib.ListN.{length}
 use Rattle.words.specs.Faults.{paramsFault, lengthFault}
 use Rattle.words.specs.Refusal.{first, unless}
 use Rattle.words.proofs.Faults.{params-clear}
-use Rattle.words.proofs.Refusal.{first-none, first-some, first-three}
+use Rattle.words.proofs.Refusal.{first-none, first-some, first-assoc, first-three}
+use Rattle.codewords.specs.Opening.{lowestRoom}
 use Rattle.sharing.specs.Opening.{risingTo, lentFault}
 use Rattle.sharing.proofs.lent_fault.Statement.{statement}
 use Rattle.sharing.proofs.lent_fault.Tie as tie
@@ -23,20 +24,28 @@ clear c = sym (c .before .params-fault .ensures) ∙ c .if1 .left
 abbrev named : tie.Start → ℕ
 named s = unless (risingTo (s .args .p .n) 0 (s .args .holders .now)) 4
 
-split : (c : tie.After-first2) → let s = S (c .before .before .before .before .before .before) in
-    lentFault (s .args .p) (s .args .holders .now) (s .args .shares .now) (s .args .n) (s .args .w) ≡ first (c .first2 .result) (named s)
+split : (c : tie.After-first3) → let s = S (c .before .before .before .before .before .before .before .before) in
+    lentFault (s .args .p) (s .args .holders .now) (s .args .shares .now) (s .args .n) (s .args .w) (s .args .l) ≡ first (c .first3 .result) (named s)
 unfolding lentFault lengthFault
 split c =
-    let s = S (c .before .before .before .before .before .before) in
+    let l = c .before .before .before .before .before .before .before .before in
+    let s = S l in
     let p = s .args .p in
     let x = lengthFault (length (s .args .holders .now) * p .d) (length (s .args .shares .now)) in
     let y = lengthFault (p .d) (s .args .n) in
     let z = lengthFault 1 (s .args .w) in
-    let e : c .first2 .result ≡ first x (first y z) =
-    c .first2 .ensures
-    ∙ ap₂ first (c .before .before .before .before .unless .ensures ∙ ap (λ t. unless t 2) (c .before .before .before .before .before .elements-ok .ensures))
-    (c .before .first .ensures ∙ ap₂ first (c .before .before .before .length-fault .ensures) (c .before .before .length-fault2 .ensures)) in
-    first-none (paramsFault p) _ (clear (c .before .before .before .before .before .before)) ∙ sym (first-three x y z (named s)) ∙ ap (λ u. first u (named s)) (sym e)
+    let u = lengthFault lowestRoom (s .args .l) in
+    let e : c .first3 .result ≡ first x (first y (first z u)) =
+    c .first3 .ensures
+    ∙ ap₂ first (c .before .before .before .before .before .before .unless .ensures
+    ∙ ap (λ t. unless t 2) (c .before .before .before .before .before .before .before .elements-ok .ensures))
+    (c .before .first2 .ensures
+    ∙ ap₂ first (c .before .before .before .before .before .length-fault .ensures)
+    (c .before .before .first .ensures
+    ∙ ap₂ first (c .before .before .before .before .length-fault2 .ensures) (c .before .before .before .length-fault3 .ensures))) in
+    first-none (paramsFault p) _ (clear l)
+    ∙ sym (first-three x y (first z u) (named s) ∙ ap (λ v. first x (first y v)) (first-assoc z u (named s)))
+    ∙ ap (λ v. first v (named s)) (sym e)
 
 returns : tie.Need-returns
 unfolding lentFault
@@ -48,14 +57,14 @@ elements-ok-requires : tie.Need-elements-ok-requires
 elements-ok-requires c κs = omega (arith, params-clear (S c .args .p) (clear c) .d-low)
 
 returns-2 : tie.Need-returns-2
-returns-2 c = let f = c .before in sym (split f ∙ first-some (f .first2 .result) (named (S (f .before .before .before .before .before .before))) (c .if2 .taken))
+returns-2 c = let f = c .before in sym (split f ∙ first-some (f .first3 .result) (named (S (f .before .before .before .before .before .before .before .before))) (c .if2 .taken))
 
 returns-3 : tie.Need-returns-3
 returns-3 c =
     let f = c .before .before .before in
     c .unless2 .ensures
     ∙ ap (λ t. unless t 4) (c .before .rising .ensures)
-    ∙ sym (split f ∙ first-none (f .first2 .result) (named (S (f .before .before .before .before .before .before))) (c .before .before .if2 .left))
+    ∙ sym (split f ∙ first-none (f .first3 .result) (named (S (f .before .before .before .before .before .before .before .before))) (c .before .before .if2 .left))
 
 pub lent-fault-spec : {M : Type 1} → statement M
 lent-fault-spec =
@@ -64,6 +73,8 @@ lent-fault-spec =
     (λ c κs. search needs)
     returns
     elements-ok-requires
+    (λ c κs. search needs)
+    (λ c κs. search needs)
     (λ c κs. search needs)
     (λ c κs. search needs)
     (λ c κs. search needs)

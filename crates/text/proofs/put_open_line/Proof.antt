@@ -20,6 +20,9 @@ use Rattle.text.proofs.put_words.Reads as put-words-reads
 abbrev words : tie.Start → List Signed
 words s = readings (s .args .k) (s .args .d) (s .args .words)
 
+abbrev lowest : tie.Start → List ℕ
+lowest s = s .args .lowest .now
+
 words-short : (s : tie.Start) → length (wordsText (words s)) ≤ 133
 words-short s =
     let n : length (take (s .args .d) (s .args .words)) ≤ 6 = rw (length-take (s .args .d) (s .args .words)) (omega (arith, s .pre)) in
@@ -31,7 +34,7 @@ Upto s n text new end = Part (s .args .out .now) (s .args .at) n text new end
 
 -- after each call: where the function began, and the text that stands
 abbrev S1 : tie.After-put-decimal → tie.Start
-S1 c = c .before .before .before
+S1 c = c .before .before .before .before
 
 abbrev text1 : tie.Start → List ℕ
 text1 s = decimal (s .args .number)
@@ -53,17 +56,22 @@ part2 c =
     let b = c .before .before .before .before .before in
     part-more (ascii " open ") 6 (omega arith) (omega (arith, s .pre)) (part1 b) (c .put-bytes .ensures) (c .put-bytes .kept .0)
 
+holders-short : (c : tie.After-put-bytes) → length (holdersText (lowest (S2 c)) (S2 c .args .wrong)) ≤ 449
+holders-short c =
+    let b = c .before .before .before .before .before in
+    holders-length (lowest (S2 c)) (λ i. b .before .before .shared-slice-known .given i .fits) (S2 c .args .wrong)
+
 abbrev S3 : tie.After-put-holders → tie.Start
 S3 c = S2 (c .before .before .before .before)
 
 abbrev text3 : tie.Start → List ℕ
-text3 s = text2 s ++ holdersText (s .args .wrong)
+text3 s = text2 s ++ holdersText (lowest s) (s .args .wrong)
 
-part3 : (c : tie.After-put-holders) → Upto (S3 c) 219 (text3 (S3 c)) (c .put-holders .last .0) (c .put-holders .result)
+part3 : (c : tie.After-put-holders) → Upto (S3 c) 475 (text3 (S3 c)) (c .put-holders .last .0) (c .put-holders .result)
 part3 c =
     let s = S3 c in
     let b = c .before .before .before .before in
-    part-more (holdersText (s .args .wrong)) 193 (holders-length (s .args .wrong))
+    part-more (holdersText (lowest s) (s .args .wrong)) 449 (holders-short b)
     (omega (arith, s .pre)) (part2 b) (c .put-holders .ensures) (c .put-holders .kept .0)
 
 abbrev S4 : tie.After-put-byte → tie.Start
@@ -72,7 +80,7 @@ S4 c = S3 (c .before .before .before .before)
 abbrev text4 : tie.Start → List ℕ
 text4 s = text3 s ++ ascii " "
 
-part4 : (c : tie.After-put-byte) → Upto (S4 c) 220 (text4 (S4 c)) (c .put-byte .last .0) (c .put-byte .result)
+part4 : (c : tie.After-put-byte) → Upto (S4 c) 476 (text4 (S4 c)) (c .put-byte .last .0) (c .put-byte .result)
 part4 c =
     let s = S4 c in
     let b = c .before .before .before .before in
@@ -84,7 +92,7 @@ S5 c = S4 (c .before .before .before .before)
 abbrev text5 : tie.Start → List ℕ
 text5 s = text4 s ++ wordsText (words s)
 
-part5 : (c : tie.After-put-words) → Upto (S5 c) 353 (text5 (S5 c)) (c .put-words .last .0) (c .put-words .result)
+part5 : (c : tie.After-put-words) → Upto (S5 c) 609 (text5 (S5 c)) (c .put-words .last .0) (c .put-words .result)
 part5 c =
     let s = S5 c in
     let b = c .before .before .before .before in
@@ -96,7 +104,7 @@ S6 c = S5 (c .before .before .before .before)
 abbrev text6 : tie.Start → List ℕ
 text6 s = text5 s ++ ascii "\n"
 
-part6 : (c : tie.After-put-byte2) → Upto (S6 c) 354 (text6 (S6 c)) (c .put-byte2 .last .0) (c .put-byte2 .result)
+part6 : (c : tie.After-put-byte2) → Upto (S6 c) 610 (text6 (S6 c)) (c .put-byte2 .last .0) (c .put-byte2 .result)
 part6 c =
     let s = S6 c in
     let b = c .before .before .before .before in
@@ -104,7 +112,7 @@ part6 c =
 
 put-decimal-requires : tie.Need-put-decimal-requires
 put-decimal-requires c κs =
-    let s = c .before .before in
+    let s = c .before .before .before in
     omega (arith, s .pre, twenty (s .args .number) (omega arith))
 
 slice-aggregate-put-bytes : tie.Need-slice-aggregate-put-bytes
@@ -117,8 +125,9 @@ put-bytes-requires c κs =
 
 put-holders-requires : tie.Need-put-holders-requires
 put-holders-requires c κs =
-    let s = S2 (c .before .before .before) in
-    part-room (holdersText (s .args .wrong)) 193 (holders-length (s .args .wrong)) (omega (arith, s .pre)) (part2 (c .before .before .before))
+    let b = c .before .before .before in
+    let s = S2 b in
+    (s .pre .3, part-room (holdersText (lowest s) (s .args .wrong)) 449 (holders-short b) (omega (arith, s .pre)) (part2 b))
 
 put-byte-requires : tie.Need-put-byte-requires
 put-byte-requires c κs =
@@ -141,7 +150,7 @@ same-length c = search needs
 returns : tie.Need-returns
 returns c =
     let s = S6 (c .before .before) in
-    rw (open-parts (s .args .number) (s .args .wrong) (words s)) (part6 (c .before .before) .wrote)
+    rw (open-parts (s .args .number) (s .args .wrong) (lowest s) (words s)) (part6 (c .before .before) .wrote)
 
 pub put-open-line-spec : {M : Type 1} → statement M
 put-open-line-spec =

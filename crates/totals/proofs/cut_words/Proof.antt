@@ -11,7 +11,8 @@ use denote.Ref.{now}
 use Rattle.words.proofs.Fill.{fill-within}
 use Rattle.galois.specs.Element.{reduce}
 use Rattle.galois.proofs.Lists.{length-reduce}
-use Rattle.totals.proofs.Added.{reduce-at, fill-here}
+use Rattle.galois.proofs.Narrow.{reduce-at}
+use Rattle.totals.proofs.Added.{fill-here}
 use Rattle.totals.proofs.cut_words.Statement.{statement}
 use Rattle.totals.proofs.cut_words.Tie as tie
 
