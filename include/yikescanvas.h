@@ -38,7 +38,11 @@ enum {
 };
 
 /* What every line of yikes_list_line fits into, with its line feed. */
-enum { YIKES_LINE = 400 };
+enum { YIKES_LINE = 1024 };
+
+/* How many entries the output `lowest` of a call that opens has, entry i - 1 for holder i, and the entry of a holder whose share is not wrong or who
+ * has none. The entry of a wrong holder is the lowest bit, 0 to 63, at which any word of its share differs from the value that belongs there. */
+enum { YIKES_LOWEST = 64, YIKES_NOT_WRONG = 255 };
 
 /* The bytes of an order, and of a holder's file with so many jobs. A bundle has the bytes of an order and of its files. */
 enum { YIKES_ORDER_SIZE = 7 };
@@ -81,9 +85,11 @@ uint8_t yikes_deal(uint64_t k, size_t d, size_t n, size_t t, const uint64_t *job
 
 /* Opens a job from the shares of some holders, strictly rising, d words for each in turn, of which at most e are wrong. out has d words.
  * wrong has exactly one word, the set of the holders whose shares are wrong: bit i - 1 for holder i. A share with a word of 2^k or more is wrong.
- * Gives 1, 2, 4, 5, 6. */
+ * lowest has exactly YIKES_LOWEST bytes, all of which are written: the lowest bit at which each wrong share differs. Words are compared as they
+ * stand, at 64 bits, so that it is k or more where the low k bits of every word are right. Gives 1, 2, 4, 5, 6. */
 uint8_t yikes_open(uint64_t k, size_t d, size_t n, size_t t, const uint64_t *holders, size_t holders_length, const uint64_t *shares,
-                   size_t shares_length, uint64_t e, uint64_t *out, size_t out_length, uint64_t *wrong, size_t wrong_length);
+                   size_t shares_length, uint64_t e, uint64_t *out, size_t out_length, uint64_t *wrong, size_t wrong_length, uint8_t *lowest,
+                   size_t lowest_length);
 
 /* The signed reading of a word of k bits: out has exactly one word, the value in two's complement, to be read as an int64_t.
  * Gives 1 (for k), 2, 3. */
@@ -129,9 +135,9 @@ uint8_t yikes_job_number(const uint8_t *bundle, size_t bundle_length, size_t pla
 uint8_t yikes_file(const uint8_t *bundle, size_t bundle_length, size_t index, uint64_t *part, size_t part_length);
 
 /* Opens the job at a place, 0 first. out has d words; wrong has exactly one word, the set of the holders whose shares are wrong, as those with a
- * word of 2^k or more are. Then gives 2, 9, 5, 6. */
+ * word of 2^k or more are; lowest has exactly YIKES_LOWEST bytes, the lowest bit at which each wrong share differs. Then gives 2, 9, 5, 6. */
 uint8_t yikes_open_place(const uint8_t *bundle, size_t bundle_length, size_t place, uint64_t *out, size_t out_length, uint64_t *wrong,
-                         size_t wrong_length);
+                         size_t wrong_length, uint8_t *lowest, size_t lowest_length);
 
 /* The total of a holder's file over the places a to b - 1: out has d words. Then gives 4, 2, 9, 3. */
 uint8_t yikes_total(const uint8_t *bundle, size_t bundle_length, size_t holder, size_t a, size_t b, uint64_t *out, size_t out_length);
@@ -142,9 +148,9 @@ uint8_t yikes_total(const uint8_t *bundle, size_t bundle_length, size_t holder, 
 uint8_t yikes_add_total(const uint8_t *bundle, size_t bundle_length, size_t holder, size_t a, size_t b, uint64_t *running, size_t running_length);
 
 /* Opens the sum of the jobs at the places a to b - 1, as yikes_open_place does one job, but declines where a word of these jobs is 2^k or more in
- * any file, also in a run of one place. Then gives 2, 9, 3, 5, 6. */
+ * any file, also in a run of one place. The lowest bits are those of the sums. Then gives 2, 9, 3, 5, 6. */
 uint8_t yikes_open_run(const uint8_t *bundle, size_t bundle_length, size_t a, size_t b, uint64_t *out, size_t out_length, uint64_t *wrong,
-                       size_t wrong_length);
+                       size_t wrong_length, uint8_t *lowest, size_t lowest_length);
 
 /* Where the body of a job record stands in the bundle, by holder and place: part has exactly two words, the offset and the length in bytes,
  * which is never 0. Then gives 4, 2, 9. */

@@ -2,8 +2,9 @@
 """The cases of the programs `edges` and `openings` and the answers to them, from the second implementation (reference.py).
 
 A case is a line of fields with bars between them: the call and its edge, k, d, n, t, the lent lists, for an opening the
-error bound, and what the output holds before the call; lists are numbers with spaces between them. Run from the
-repository's top; it writes the files stdin and stdout of crates/edges and crates/openings.
+error bound, and what the output holds before the call; lists are numbers with spaces between them. An answer is the
+call's number, for an opening the set of the wrong holders and the 64 lowest bits, and what the output then holds. Run
+from the repository's top; it writes the files stdin and stdout of crates/edges and crates/openings.
 """
 from reference import Book, Refused, check_book, deal, elements, open_lent, require, ring_of
 
@@ -11,6 +12,8 @@ BIG = 2**64 - 1
 SMALL = Book(3, 2, 3, 1)  # the book of most cases
 LONGEST_INPUT = 65536
 ROOM = {"edges": 8, "openings": 379}  # words of a list that a program has room for
+HOLDERS = 64  # entries of the lowest bits
+OLD_BIT, NO_BIT = 7, 255  # what they hold before a call, and of a holder that is not wrong after it
 
 
 # ---------------------------------------------------------------- the calls on lent words, from the second implementation
@@ -45,11 +48,11 @@ def call_deal(book, job, coefficients, out):
 
 
 def call_open(book, holders, words, e, out):
-    """The words, and the set of the wrong holders. The output's length is judged with the other lengths."""
+    """The words, the set of the wrong holders, and the lowest bits. The output's length is judged with the other lengths."""
     check_book(book)
     require(len(words) == len(holders) * book.d and len(out) == book.d, 2)
     job, wrong = open_lent(book, holders, words, e)
-    return job, sum(1 << i - 1 for i in wrong)
+    return job, sum(1 << i - 1 for i in wrong), [wrong.get(i, NO_BIT) for i in range(1, HOLDERS + 1)]
 
 
 # ---------------------------------------------------------------- lines
@@ -94,10 +97,10 @@ class Cases:
     def open(self, edge, book, holders, words, e, size=None, old=None):
         out = old or [9] * (book.d if size is None else size)
         try:
-            job, wrong = call_open(book, holders, words, e, out)
-            answer = [0, wrong, *job]
+            job, wrong, lowest = call_open(book, holders, words, e, out)
+            answer = [0, wrong, *lowest, *job]
         except Refused as refused:
-            answer = [refused.number, 0, *out]
+            answer = [refused.number, 0, *[OLD_BIT] * HOLDERS, *out]
         self.line("open, " + edge, book, [holders, words, [e], out], answer)
 
     def write(self, crate):
@@ -348,6 +351,36 @@ def wide(cases):
     cases.open("three wide of five, output kept", Book(8, 3, 5, 0), [1, 2, 3, 4, 5], [256, 0, 0] * 3 + [7, 8, 9] * 2, 2, old=[1, 2, 3])
 
 
+def lowest(cases):
+    """The lowest bit over all words of a wrong share, wide words at their full 64 bits (paper 02, K4). The right share is (5, 2, 0)."""
+    right, three = (5, 2, 0), [1, 2, 3]
+
+    def case(edge, changes, bits, holders=three, k=6):
+        """The shares that differ, and by hand the bits that are told of their holders."""
+        book, e = Book(k, 3, 7, 0), (len(holders) - 1) // 2
+        words = [word for i in holders for word in changes.get(i, right)]
+        assert open_lent(book, holders, words, e) == (right, dict(zip(changes, bits))), edge
+        cases.open("lowest bit, " + edge, book, holders, words, e)
+
+    case("word 0 in bit 5, word 2 in bit 1", {2: (5 ^ 32, 2, 2)}, [1])
+    case("word 0 in bit 1, word 2 in bit 5", {3: (5 ^ 2, 2, 32)}, [1])
+    case("bits 1 and 5 of one word", {1: (5, 2 ^ 34, 0)}, [1])
+    case("bit 0", {1: (5, 3, 0)}, [0])
+    case("the top bit", {2: (5, 2, 32)}, [5])
+    case("the top bit at k 64", {3: (5, 2 + 2**63, 0)}, [63], k=64)
+    case("all bits", {2: (5 ^ 63, 2 ^ 63, 63)}, [0])
+    case("wide, bit k", {3: (5 + 64, 2, 0)}, [6])
+    case("wide, bit 63", {1: (5, 2, 2**63)}, [63])
+    case("wide in bits 63 and k", {2: (5 + 2**63, 2, 64)}, [6])
+    case("wide, and wrong in a later word", {2: (5 + 64, 2, 4)}, [2])
+    case("wide, and wrong in an earlier word", {3: (5 ^ 16, 2 + 2**40, 0)}, [4])
+    case("wide and wrong in one word", {1: (5, 2 ^ 72, 0)}, [3])
+    case("two wrong, one wide", {2: (5, 2, 2**20), 4: (5, 2 ^ 16, 8)}, [20, 3], [1, 2, 3, 4, 7])
+    case("others absent", {3: (5 ^ 4, 2, 0), 5: (1, 1, 1)}, [2, 0], [3, 4, 5, 6, 7])
+    # holder 63 is the last that a book can have, and entry 64 is nobody's
+    cases.open("lowest bit, holders 1 and 63", Book(64, 6, 63, 0), [1, 2, 31, 62, 63], [1] + [0] * 28 + [2**62], 2)
+
+
 # ---------------------------------------------------------------- openings: several wrong shares
 
 def several(cases):
@@ -437,7 +470,7 @@ def main():
     edges, openings = Cases(), Cases()
     for part in (books, element_lengths, widths, products, shares, readings):
         part(edges)
-    for part in (dealings, marked, books_and_few, lengths_and_holders, wide, several, linear, large):
+    for part in (dealings, marked, books_and_few, lengths_and_holders, wide, lowest, several, linear, large):
         part(openings)
     edges.write("edges")
     openings.write("openings")

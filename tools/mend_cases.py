@@ -38,7 +38,7 @@ def case(name, data, expect, new=None):
 
 
 def opening(read, place):
-    """Words and wrong holders of a job, or its number."""
+    """Words and wrong holders of a job, each with the lowest bit that differs, or its number."""
     try:
         return ref.open_shares(read.book, read.shares(place), read.e)
     except ref.Refused as refused:
@@ -62,7 +62,7 @@ def judge(name, data, new, lines):
             all_open = False
             continue
         words, wrong = was
-        assert now == (words, []), (name, place)
+        assert now == (words, {}), (name, place)
         values_elsewhere(name, before, after, place, wrong)
         named += [(place, holder) for holder in wrong]
         told += [f"{number} holder {holder}" for holder in wrong]

@@ -5,7 +5,9 @@ The outputs are those of reference.py. Where a case is built to have a certain a
 well and compared; openings with few subsets of shares are also compared with the search through all of them.
 Every case draws from a generator seeded with its own name, so a run always writes the same files.
 """
+import functools
 import math
+import operator
 import pathlib
 import random
 import struct
@@ -58,10 +60,17 @@ def dealt(rng, book, words=None, step=1):
     return words, ref.deal(book, words, coefficients)
 
 
-def line(book, number, words, wrong=()):
-    """The line of an opened job."""
+def bits(before, after):
+    """{holder: the lowest bit at which its share became another} of shares before and after some of them changed."""
+    gaps = {i: functools.reduce(operator.or_, map(operator.xor, before[i], after[i])) for i in before}
+    return {i: (gap & -gap).bit_length() - 1 for i, gap in gaps.items() if gap}
+
+
+def line(book, number, words, wrong=None):
+    """The line of an opened job; `wrong` is {holder: bit}, as dealt and changed shares tell it."""
     signed = ref.ring_of(book.k, book.d).signed
-    return f"{number} open {ref.joined(wrong)} {ref.joined(map(signed, words))}"
+    column = ",".join(f"{holder}/{bit}" for holder, bit in sorted((wrong or {}).items()))
+    return f"{number} open {column or '-'} {ref.joined(map(signed, words))}"
 
 
 # ---------------------------------------------------------------- damage to dealt shares
@@ -162,7 +171,7 @@ def random_bundles():
                 words, shares = dealt(rng, book)
                 wrong = sorted(rng.sample(holders, rng.randint(0 if turn % 9 == 0 else 1, e)))
                 jobs.append((number, damaged(rng, book, shares, wrong, DAMAGE[turn % len(DAMAGE)])))
-                lines.append(line(book, number, words, wrong))
+                lines.append(line(book, number, words, bits(shares, jobs[-1][1])))
                 number += rng.randint(1, 300)
                 turn += 1
             case(name, bundle(e, book, holders, jobs, rng.getrandbits(64)), lines)
@@ -178,8 +187,8 @@ def extreme_books():
             rng = random.Random(name)
             book = Book(k, d, n, t)
             words, shares = dealt(rng, book)
-            wrong = sorted(rng.sample(sorted(shares), e))
-            case(name, bundle(e, book, shares, [(1, damaged(rng, book, shares, wrong, any_bits))]), [line(book, 1, words, wrong)])
+            changed = damaged(rng, book, shares, sorted(rng.sample(sorted(shares), e)), any_bits)
+            case(name, bundle(e, book, shares, [(1, changed)]), [line(book, 1, words, bits(shares, changed))])
 
 
 def too_many_wrong():
@@ -213,10 +222,9 @@ def majority():
                     product = ring.mul(product, ring.sub(ring.point(x), ring.point(i)))
                 return product
 
-            for i in holders[t:t + e + 1]:
-                shares[i] = ring.add(shares[i], gap(i))
-            case(name, bundle(e, book, sorted(holders), [(9, shares)]),
-                 [line(book, 9, ring.add(words, gap(0)), sorted(holders[t + e + 1:]))])
+            other = {i: ring.add(shares[i], gap(i)) for i in holders}
+            mixed = {i: shares[i] if i in holders[t + e + 1:] else other[i] for i in holders}
+            case(name, bundle(e, book, sorted(holders), [(9, mixed)]), [line(book, 9, ring.add(words, gap(0)), bits(other, mixed))])
 
 
 def levels():
@@ -227,8 +235,8 @@ def levels():
     def shares(changes):
         return {i: ring.add(words, changes.get(i, ring.zero)) for i in range(1, 8)}
 
-    jobs = [({2: (1, 0, 0)}, [2]), ({2: (1, 0, 0), 5: (0, 0, 128)}, [2, 5]), ({2: (255, 255, 255)}, [2]),
-            ({2: (1, 0, 0), 3: (0, 2, 0), 7: (0, 0, 4)}, [2, 3, 7]),
+    jobs = [({2: (1, 0, 0)}, {2: 0}), ({2: (1, 0, 0), 5: (0, 0, 128)}, {2: 0, 5: 7}), ({2: (255, 255, 255)}, {2: 0}),
+            ({2: (1, 0, 0), 3: (0, 2, 0), 7: (0, 0, 4)}, {2: 0, 3: 1, 7: 2}),
             ({2: (1, 0, 0), 3: (0, 2, 0), 4: (4, 0, 0), 7: (0, 0, 8)}, None),
             ({1: (128, 0, 0), 2: (0, 128, 0), 3: (0, 0, 128), 4: (128, 128, 0)}, None)]
     for e in (0, 1, 2, 3):
@@ -248,7 +256,7 @@ def low_degrees():
         zeros = {i: ring.zero for i in range(1, book.n + 1)}
         constant = {i: (ring.mask,) * d for i in range(1, book.n + 1)}
         even, even_shares = dealt(rng, book, tuple(2 * x & ring.mask for x in ref.random_element(rng, ring)), 2)
-        lines = [line(book, 1, ring.zero), line(book, 2, (ring.mask,) * d), line(book, 3, even), line(book, 4, ring.zero, [2])]
+        lines = [line(book, 1, ring.zero), line(book, 2, (ring.mask,) * d), line(book, 3, even), line(book, 4, ring.zero, {2: k - 1})]
         damaged_zeros = {**zeros, 2: (0,) * (d - 1) + (1 << k - 1,)}
         jobs = list(enumerate([zeros, constant, even_shares, damaged_zeros], 1))
         case(f"low-degree-d{d}-k{k}", bundle(e, book, zeros, jobs), lines)
@@ -272,7 +280,8 @@ def allowances():
     wide = Book(64, 6, 63, 40)
     words, shares = dealt(rng, wide)
     case("too-few-by-one", bundle(1, wide, list(range(22, 64)), [(4, shares)]), ["4 5 - -"])
-    case("just-enough", bundle(1, wide, list(range(21, 64)), [(4, {**shares, 63: (0,) * 6})]), [line(wide, 4, words, [63])])
+    changed = {**shares, 63: (0,) * 6}
+    case("just-enough", bundle(1, wide, list(range(21, 64)), [(4, changed)]), [line(wide, 4, words, bits(shares, changed))])
 
 
 def wide_one_of_three():
@@ -287,12 +296,12 @@ def wide_one_of_three():
             no_curve = {1: flipped(shares[1], [(0, 0)]), 2: flipped(shares[2], [(1, 0)]), 3: wide[holder]}
             jobs = [(1, shares), (2, wide), (3, no_curve), (4, shares)]
             case(f"wide-{kind}-k{k}-d{d}", bundle(1, book, shares, jobs),
-                 [line(book, 1, words), line(book, 2, words, [holder]), "3 6 - -", line(book, 4, words)])
+                 [line(book, 1, words), line(book, 2, words, bits(shares, wide)), "3 6 - -", line(book, 4, words)])
             case(f"wide-{kind}-too-few-k{k}-d{d}", bundle(2, book, shares, jobs), [f"{number} 5 - -" for number in (1, 2, 3, 4)])
     full = Book(64, 2, 1, 0)
     case("no-word-is-wide-k64", bundle(0, full, [1], [(1, {1: (2**64 - 1, 2**63)})]), ["1 open - -1,-9223372036854775808"])
     low_bits_right = {1: (5, 2), 2: (5, 2), 3: (5 + 8, 2)}
-    case("wide-right-in-low-bits", bundle(1, Book(3, 2, 3, 0), [1, 2, 3], [(1, low_bits_right)]), ["1 open 3 -3,2"])
+    case("wide-right-in-low-bits", bundle(1, Book(3, 2, 3, 0), [1, 2, 3], [(1, low_bits_right)]), ["1 open 3/3 -3,2"])
 
 
 def wide_shares():
@@ -308,9 +317,9 @@ def wide_shares():
             holders = sorted(rng.sample(range(1, 8), m))
             words, shares = dealt(rng, book)
             wrong = rng.sample(holders, wide + others)
-            shares = damaged(rng, book, damaged(rng, book, shares, wrong[:wide], way), wrong[wide:], any_bits)
-            opened = line(book, 1, words, sorted(wrong)) if wide + others <= e else "1 6 - -"
-            case(name, bundle(e, book, holders, [(1, shares)]), ["1 5 - -" if m < least else opened])
+            changed = damaged(rng, book, damaged(rng, book, shares, wrong[:wide], way), wrong[wide:], any_bits)
+            opened = line(book, 1, words, bits(shares, changed)) if wide + others <= e else "1 6 - -"
+            case(name, bundle(e, book, holders, [(1, changed)]), ["1 5 - -" if m < least else opened])
 
         wide_case("one-word", 7, 1, wide_word)
         wide_case("just-enough", least, e, wide_word)
@@ -328,7 +337,7 @@ def wide_shares():
         for number, wrong in enumerate([[], [1, 2], [], [6, 7], [2, 3, 4], []]):
             words, shares = dealt(rng, book)
             jobs.append((number, damaged(rng, book, shares, wrong, wide_word)))
-            lines.append(line(book, number, words, wrong) if len(wrong) <= e else f"{number} 6 - -")
+            lines.append(line(book, number, words, bits(shares, jobs[-1][1])) if len(wrong) <= e else f"{number} 6 - -")
         case(name, bundle(e, book, range(1, 8), jobs), lines)
 
     book, right, wide = Book(3, 3, 5, 0), (5, 2, 0), (5 + 8, 2, 0)
@@ -337,16 +346,65 @@ def wide_shares():
     case("wide-e0-alone", bundle(0, book, [2], [(1, {2: wide}), (2, {2: right})]), ["1 6 - -", "2 open - -3,2,0"])
     # three of five agree in their low bits
     for name, five, expect in (("majority", [right, other, other_wide, right, other_wide], "1 6 - -"),
-                               ("minority", [other_wide, right, other_wide, right, right], "1 open 1,3 -3,2,0")):
+                               ("minority", [other_wide, right, other_wide, right, right], "1 open 1/2,3/2 -3,2,0")):
         case(f"wide-{name}", bundle(2, book, range(1, 6), [(1, dict(enumerate(five, 1)))]), [expect])
     rng, book = random.Random("wide-none-k64"), Book(64, 3, 7, 2)
     words, shares = dealt(rng, book, (2**64 - 1, 2**63, 2**64 - 2))
-    case("wide-none-k64", bundle(2, book, shares, [(1, damaged(rng, book, shares, [3, 7], high_bits))]), [line(book, 1, words, [3, 7])])
+    case("wide-none-k64", bundle(2, book, shares, [(1, damaged(rng, book, shares, [3, 7], high_bits))]), [line(book, 1, words, {3: 63, 7: 63})])
     rng, book = random.Random("wide-63-holders"), Book(63, 6, 63, 20)
     words, shares = dealt(rng, book)
     jobs = [(at, damaged(rng, book, shares, wrong, wide_word)) for at, wrong in enumerate((range(1, 22), range(43, 64), range(1, 23)))]
     case("wide-63-holders", bundle(21, book, shares, jobs),
-         [line(book, 0, words, range(1, 22)), line(book, 1, words, range(43, 64)), "2 6 - -"])
+         [line(book, 0, words, dict.fromkeys(range(1, 22), 63)), line(book, 1, words, dict.fromkeys(range(43, 64), 63)), "2 6 - -"])
+
+
+def flips_case(name, book, e, jobs):
+    """Dealt jobs, {holder: the bits (word, place) that are turned over in its share} of each: the lowest place of all its words is told."""
+    rng, changed, lines = random.Random(name), [], []
+    for number, flips in enumerate(jobs):
+        words, shares = dealt(rng, book)
+        changed.append((number, {**shares, **{i: flipped(shares[i], places) for i, places in flips.items()}}))
+        lines.append(line(book, number, words, {i: min(place for _, place in places) for i, places in flips.items()}))
+    case(name, bundle(e, book, range(1, book.n + 1), changed), lines)
+
+
+def positions():
+    """Paper 02, K4: "the lowest bit position at which any of its words differs", and "a wide word is compared at its full 64 bits"."""
+    for k, d in ((1, 2), (8, 3), (33, 4), (63, 5), (64, 6)):  # each bit alone, in each word in turn; from k on the word is wide
+        flips_case(f"bit-alone-k{k}-d{d}", Book(k, d, 3, 0), 1, [{at % 3 + 1: [(at % d, at)]} for at in range(64)])
+    for k, d in ((8, 3), (31, 4), (64, 3), (64, 6)):
+        top, last, every = k - 1, d - 1, [(j, place) for j in range(d) for place in range(k)]
+        flips_case(f"bit-of-several-k{k}-d{d}", Book(k, d, 7, 1), 2, [
+            {1: [(0, 5), (2, 1)], 7: [(0, 1), (2, 5)]},  # not in the first word that differs, and not in the last
+            {2: [(1, 6), (2, 5), (0, 4)], 3: [(1, 4), (2, 6), (0, 5)]},
+            {4: [(1, 1), (1, 6)]},  # one word
+            {5: every, 6: [bit for bit in every if bit[1] >= 2]},
+            {1: [(0, top), (last, 0)], 2: [(0, 0), (last, top)]},  # the highest and the lowest of all
+            {3: [(last, top)], 7: [(0, top)]}, {6: [(j, top) for j in range(d)]},
+            {2: [(0, top), (1, top - 1)], 4: [(last, 0)]}, {}])
+    for k, d in ((1, 2), (3, 3), (8, 6), (31, 4), (62, 3)):
+        top, last, above = k - 1, d - 1, [(j, place) for j in range(d) for place in range(k, 64)]
+        flips_case(f"bit-wide-k{k}-d{d}", Book(k, d, 3, 0), 1, [
+            {1: [(0, k)]}, {2: [(last, 63)]}, {3: above},  # right in the low k bits
+            {1: [(0, 63), (last, k)]}, {2: [(0, k), (last, 63)]}, {3: [(1, 63), (1, k)]},
+            {1: [(0, 63), (last, top)]}, {2: [(0, top), (last, k)]}, {3: [(1, top), (1, k)]},  # wrong below them too, in another word or the same
+            {1: above + [(0, 0)]}, {2: above + [(last, top)]}])
+    for k, d in ((1, 3), (8, 4), (62, 6)):
+        flips_case(f"bit-wide-beside-wrong-k{k}-d{d}", Book(k, d, 7, 1), 2, [
+            {1: [(0, k)], 3: [(2, k - 1)]}, {2: [(0, k - 1)], 7: [(2, 63)]}, {4: [(1, 0), (0, 63)], 5: [(0, 0)]}, {6: [(0, 63)], 7: [(1, k)]}])
+    book, least = Book(64, 6, 63, 0), (2**63,) * 6
+    flips_case("bit-of-31-holders", book, 31, [{i: [(i % 6, i)] for i in range(33, 64)}, {i: [(i % 6, 63 - i)] for i in range(1, 63, 2)},
+                                               {i: [(5, 63), (0, i)] for i in range(1, 32)}])
+    longest = {i: flipped(least, [(i % 6, i)]) if i > 32 else least for i in range(1, 64)}  # the longest line that a job can have
+    case("bit-longest-line", bundle(31, book, longest, [(2**64 - 1, longest)]), [line(book, 2**64 - 1, least, {i: i for i in range(33, 64)})])
+    for sign in (1, -1):  # a sum or a difference that changes every bit from its own on
+        book, jobs, lines = Book(16, 3, 5, 0), [], []
+        for at in range(16):
+            word = (2**16 - 2**at if sign > 0 else 0, 7, 9)
+            other = ref.ring_of(16, 3).add(word, (sign * 2**at % 2**16, 0, 0))
+            jobs.append((at, {i: other if i == at % 5 + 1 else word for i in range(1, 6)}))
+            lines.append(line(book, at, word, {at % 5 + 1: at}))
+        case(f"bit-carries-{'up' if sign > 0 else 'down'}", bundle(2, book, range(1, 6), jobs), lines)
 
 
 def signed_words():
@@ -365,7 +423,7 @@ def signed_words():
 
 def marked():
     """The paper's bench examples that are bundles, and its near misses."""
-    case("sample", ref.sample(), ["10 open 3 -3,2", "11 6 - -"])
+    case("sample", ref.sample(), ["10 open 3/2 -3,2", "11 6 - -"])
     line_book, flat = Book(3, 2, 3, 1), ref.SAMPLE_BOOK
     shares = {1: (0, 3), 2: (4, 4), 3: (7, 5)}
     changed = {**shares, 3: (3, 5)}
@@ -373,9 +431,9 @@ def marked():
     case("m6", bundle(0, line_book, shares, [(1, changed)]), ["1 6 - -"])
     case("m7", bundle(0, line_book, [1, 3], [(1, changed)]), ["1 open - 1,-2"])
     case("m8", bundle(1, line_book, shares, [(1, shares)]), ["1 5 - -"])
-    case("m9", bundle(1, flat, shares, [(10, {1: (5, 2), 2: (5, 2), 3: (1, 2)})]), ["10 open 3 -3,2"])
-    case("m9-holder-1-changed", bundle(1, flat, shares, [(10, {1: (1, 2), 2: (5, 2), 3: (5, 2)})]), ["10 open 1 -3,2"])
-    case("m9-holder-2-changed", bundle(1, flat, shares, [(10, {1: (5, 2), 2: (1, 2), 3: (5, 2)})]), ["10 open 2 -3,2"])
+    case("m9", bundle(1, flat, shares, [(10, {1: (5, 2), 2: (5, 2), 3: (1, 2)})]), ["10 open 3/2 -3,2"])
+    case("m9-holder-1-changed", bundle(1, flat, shares, [(10, {1: (1, 2), 2: (5, 2), 3: (5, 2)})]), ["10 open 1/2 -3,2"])
+    case("m9-holder-2-changed", bundle(1, flat, shares, [(10, {1: (5, 2), 2: (1, 2), 3: (5, 2)})]), ["10 open 2/2 -3,2"])
     case("m10", bundle(1, flat, shares, [(11, {1: (5, 2), 2: (1, 2), 3: (7, 2)})]), ["11 6 - -"])
     case("m12", bundle(0, Book(8, 2, 1, 0), [1], [(1, {1: (127, 128)})]), ["1 open - 127,-128"])
     case("k1-reads-minus-1", bundle(0, Book(1, 2, 1, 0), [1], [(1, {1: (1, 0)})]), ["1 open - -1,0"])
@@ -601,17 +659,18 @@ def long_inputs():
             words, shares = dealt(rng, book)
             wrong = sorted(rng.sample(range(1, files + 1), (0, e, e // 2)[number % 3]))
             jobs.append((number, damaged(rng, book, shares, wrong, DAMAGE[number % len(DAMAGE)])))
-            lines.append(line(book, number, words, wrong))
+            lines.append(line(book, number, words, bits(shares, jobs[-1][1])))
         data = bundle(e, book, range(1, files + 1), jobs)[:length]
         case(name, data, lines if expect is None else expect)
         return len(data)
 
     def slow(name, book, e, count):
         """The decoder's longest way: in every job the shares that are read first are wrong, each in another bit."""
-        rng, jobs, lines, wrong = random.Random(name), [], [], range(1, e + 1)
+        rng, jobs, lines = random.Random(name), [], []
         for number in range(count):
             words, shares = dealt(rng, book)
-            for holder, bit in zip(wrong, rng.sample(range(book.k), e)):
+            wrong = dict(zip(range(1, e + 1), rng.sample(range(book.k), e)))
+            for holder, bit in wrong.items():
                 share, place = list(shares[holder]), rng.randrange(book.d)
                 share[place] ^= 1 << bit
                 shares[holder] = tuple(share)
@@ -639,7 +698,7 @@ def write():
 
 if __name__ == "__main__":
     for group in (marked, random_bundles, extreme_books, too_many_wrong, majority, levels, low_degrees, allowances, wide_one_of_three,
-                  wide_shares, signed_words, job_numbers, cuts, bytes_changed, lengths_and_kinds, sequences, books, holders, strangers,
+                  wide_shares, positions, signed_words, job_numbers, cuts, bytes_changed, lengths_and_kinds, sequences, books, holders, strangers,
                   rising, long_inputs):
         group()
     write()

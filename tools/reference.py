@@ -1,5 +1,5 @@
 #!/usr/bin/env python3
-"""A second implementation of papers 01 and 02 (K1 to K3), for comparison: ring, dealing, opening, file writer, bundle reader, listing, mending.
+"""A second implementation of papers 01 and 02 (K1 to K4), for comparison: ring, dealing, opening, file writer, bundle reader, listing, mending.
 
 Without arguments this is the program `open`: a bundle on standard input, its listing on standard output. With `--mend` it prints what `mend` does.
 `--selftest` checks the paper's examples, and three ways of opening against each other.
@@ -191,14 +191,26 @@ def through(ring, shares, holders, x):
 # ---------------------------------------------------------------- opening: each gives (words, wrong holders) or None
 
 # The words of a share may be wide. They are compared with those of a value as they stand, so that such a share differs
-# "from every polynomial" (paper 02, K1).
+# "from every polynomial" (paper 02, K1). The wrong holders, rising, come each with the lowest bit that differs (K4):
+# {holder: bit}.
+
+
+def lowest_difference(share, value):
+    """K4: "the lowest bit position at which any of its words differs, or that none does", which is None.
+
+    "A wide word is compared at its full 64 bits with the value": bits from k on are bits like the others.
+    """
+    if share == value:
+        return None
+    return next(bit for bit in range(64) if any(x >> bit & 1 != y >> bit & 1 for x, y in zip(share, value)))
 
 
 def open_by_definition(ring, t, shares, e):
     """The words of 6: a "polynomial of degree at most t" that "differs from e shares or fewer"; every one is tried."""
     every = list(itertools.product(range(ring.mask + 1), repeat=ring.d))
     for polynomial in itertools.product(every, repeat=t + 1):
-        wrong = [i for i in shares if ring.value(polynomial, ring.point(i)) != shares[i]]
+        bits = {i: lowest_difference(share, ring.value(polynomial, ring.point(i))) for i, share in shares.items()}
+        wrong = {i: bit for i, bit in bits.items() if bit is not None}
         if len(wrong) <= e:
             return polynomial[0], wrong
     return None
@@ -207,10 +219,11 @@ def open_by_definition(ring, t, shares, e):
 def open_by_subsets(ring, t, shares, e):
     """A polynomial that differs from at most e of t + 1 + 2e shares meets t + 1 of them, and these fix it."""
     for holders in itertools.combinations(shares, t + 1):
-        wrong = []
+        wrong = {}
         for i in shares:
-            if shares[i] != through(ring, shares, holders, i):
-                wrong.append(i)
+            bit = lowest_difference(shares[i], through(ring, shares, holders, i))
+            if bit is not None:
+                wrong[i] = bit
                 if len(wrong) > e:
                     break
         else:
@@ -225,20 +238,25 @@ def open_by_jumps(ring, t, shares, e):
     shares, so P = F + 2^v G, and G modulo 2 is within the allowance of (share - F) / 2^v modulo 2: a word that Gao
     decodes. The shares wrong there are dropped "and the allowance falls by their number". At least one falls, as
     the word is zero at t + 1 points but not everywhere, and a word of degree at most t cannot be so. Where v is k or
-    more, shares leave F in wide words alone, so that P is F, which is not within the allowance.
+    more, shares leave F in wide words alone, so that P is F, which is not within the allowance. Two numbers first differ
+    at the lowest bit of their difference.
     """
     inside, allowance = dict(shares), e
     while True:
         holders = tuple(inside)[:t + 1]
-        curve = {i: through(ring, inside, holders, i) for i in inside}
-        gaps = {i: [x - y for x, y in zip(share, curve[i])] for i, share in inside.items()}
-        if sum(any(gap) for gap in gaps.values()) <= allowance:
-            wrong = [i for i in shares if i not in inside or any(gaps[i])]
+
+        def gaps(those):
+            """What F leaves of shares, in numbers that may be negative."""
+            return {i: [x - y for x, y in zip(share, through(ring, inside, holders, i))] for i, share in those.items()}
+
+        left = gaps(inside)
+        if sum(map(any, left.values())) <= allowance:
+            wrong = {i: lowest_of(gap) for i, gap in gaps(shares).items() if any(gap)}
             return through(ring, inside, holders, 0), wrong
-        v = min(lowest_bit(word) for gap in gaps.values() for word in gap if word)
+        v = min(lowest_of(gap) for gap in left.values() if any(gap))
         if v >= ring.k:
             return None
-        word = {i: sum((gap[j] >> v & 1) << j for j in range(ring.d)) for i, gap in gaps.items()}
+        word = {i: sum((gap[j] >> v & 1) << j for j in range(ring.d)) for i, gap in left.items()}
         wrong = gao(field_of(ring.d), t, word, allowance)
         if wrong is None:
             return None
@@ -248,8 +266,9 @@ def open_by_jumps(ring, t, shares, e):
             del inside[i]
 
 
-def lowest_bit(number):
-    return (number & -number).bit_length() - 1
+def lowest_of(gap):
+    """The lowest bit of some numbers, not all zero."""
+    return min((number & -number).bit_length() - 1 for number in gap if number)
 
 
 class Field:
@@ -579,18 +598,26 @@ def mended(data):
 
 # ---------------------------------------------------------------- the programs
 
-def joined(numbers):
-    return ",".join(map(str, numbers)) or "-"
+def joined(items):
+    return ",".join(map(str, items)) or "-"
+
+
+def joined_bits(wrong):
+    """{holder: bit} as the listing has it."""
+    return joined(f"{holder}/{bit}" for holder, bit in wrong.items())
 
 
 def job_line(bundle, place):
-    """Job number; `open` or the number 5 or 6; "wrong holders rising, or `-`; the signed words, or `-`." """
+    """Job number; `open` or the number 5 or 6; "wrong holders rising, or `-`; the signed words, or `-`."
+
+    K4: "the listing prints the holder, a slash and the position".
+    """
     try:
         words, wrong = open_shares(bundle.book, bundle.shares(place), bundle.e)
     except Refused as refused:
         return f"{bundle.numbers[place]} {refused.number} - -"
     signed = ring_of(bundle.book.k, bundle.book.d).signed
-    return f"{bundle.numbers[place]} open {joined(wrong)} {joined(map(signed, words))}"
+    return f"{bundle.numbers[place]} open {joined_bits(wrong)} {joined(map(signed, words))}"
 
 
 def change_lines(bundle, place):
@@ -656,17 +683,17 @@ def test_marked():
     assert ring.mul((0, 1), (1, 1)) == (7, 0)
     assert ring.inverse((0, 1)) == (7, 7)
     assert list(deal(line, (5, 2), [(3, 1)]).values()) == [(0, 3), (4, 4), (7, 5)]
-    assert answer(line, [1, 2, 3], [(0, 3), (4, 4), (7, 5)], 0) == ((5, 2), [])
+    assert answer(line, [1, 2, 3], [(0, 3), (4, 4), (7, 5)], 0) == ((5, 2), {})
     assert answer(line, [1, 2, 3], [(0, 3), (4, 4), (3, 5)], 0) == 6
-    assert answer(line, [1, 3], [(0, 3), (3, 5)], 0) == ((1, 6), [])
+    assert answer(line, [1, 3], [(0, 3), (3, 5)], 0) == ((1, 6), {})
     assert answer(line, [1, 2, 3], [(0, 3), (4, 4), (7, 5)], 1) == 5
-    assert answer(SAMPLE_BOOK, [1, 2, 3], SAMPLE_JOBS[10], 1) == ((5, 2), [3])
+    assert answer(SAMPLE_BOOK, [1, 2, 3], SAMPLE_JOBS[10], 1) == ((5, 2), {3: 2})
     assert answer(SAMPLE_BOOK, [1, 2, 3], SAMPLE_JOBS[11], 1) == 6
     assert ring_of(64, 4).mul((0, 0, 0, 1), (0, 1, 0, 0)) == (2**64 - 1, 2**64 - 1, 0, 0)
     assert [ring_of(8, 2).signed(w) for w in (127, 128)] == [127, -128]
     assert ring_of(1, 2).signed(1) == -1
     assert answer(SAMPLE_BOOK, [], [()], 0) == 5
-    assert answer(SAMPLE_BOOK, [1, 2, 3], [(1, 2), (5, 2), (5, 2)], 1) == ((5, 2), [1])
+    assert answer(SAMPLE_BOOK, [1, 2, 3], [(1, 2), (5, 2), (5, 2)], 1) == ((5, 2), {1: 2})
     assert [number_of(check_book, Book(1, 4, n, 0)) for n in (15, 16)] == [0, 1]
     assert [number_of(check_book, Book(1, 4, 1, 0), jobs) for jobs in (1000, 1001)] == [0, 1]
 
@@ -674,27 +701,45 @@ def test_marked():
 def test_wide():
     """K1: a wide share is present, and differs from every polynomial, whatever its low bits are."""
     right, wide, wrong = (5, 2), (5 + 8, 2), (1, 2)
-    assert answer(SAMPLE_BOOK, [1, 2, 3], [wide, right, right], 1) == (right, [1])
-    assert answer(SAMPLE_BOOK, [1, 2, 3], [right, right, (8, 2**64 - 1)], 1) == (right, [3])
+    assert answer(SAMPLE_BOOK, [1, 2, 3], [wide, right, right], 1) == (right, {1: 3})
+    assert answer(SAMPLE_BOOK, [1, 2, 3], [right, right, (8, 2**64 - 1)], 1) == (right, {3: 0})
     assert answer(SAMPLE_BOOK, [1, 2, 3], [right, right, wide], 0) == 6
     assert answer(SAMPLE_BOOK, [1, 2, 3], [right, wide, wide], 1) == 6
     assert answer(SAMPLE_BOOK, [1, 2, 3], [right, wide, wrong], 1) == 6
     assert answer(SAMPLE_BOOK, [1, 2], [right, wide], 1) == 5  # too few by number, though the wide one is one of them
     assert answer(SAMPLE_BOOK, [1], [wide], 0) == 6
     data = order(1) + b"".join(heading(SAMPLE_BOOK, i, 7, 2) + job(1, right) + job(2, wide if i == 3 else right) for i in (1, 2, 3))
-    assert listing(data) == "job state wrong words\n1 open - -3,2\n2 open 3 -3,2\n"
-    assert open_run(data, 0, 1) == (right, []) and [number_of(open_run, data, *run) for run in ((1, 2), (0, 2))] == [3, 3]
+    assert listing(data) == "job state wrong words\n1 open - -3,2\n2 open 3/3 -3,2\n"
+    assert open_run(data, 0, 1) == (right, {}) and [number_of(open_run, data, *run) for run in ((1, 2), (0, 2))] == [3, 3]
     assert [number_of(total, data, holder, 1, 2) for holder in (2, 3)] == [0, 3]
+
+
+def test_lowest():
+    """K4: the lowest bit over all words, wide ones at their full 64 bits, for each wrong holder."""
+    right = (5, 2, 0)
+    for share, bit in (((5, 2, 0), None), ((4, 2, 0), 0), ((1, 2, 0), 2), ((5, 2, 4), 2), ((5 ^ 32, 2, 2), 1), ((5 ^ 2, 2, 32), 1), ((7, 6, 7), 0),
+                       ((5 + 8, 2, 0), 3), ((5, 2 + 2**63, 0), 63), ((5 + 2**40, 2, 2**20), 20), ((5 + 8, 6, 0), 2), ((5, 2, 2**64 - 1), 0)):
+        assert lowest_difference(share, right) == lowest_difference(right, share) == bit
+        for k in (3, 4, 64):
+            book, wrong = Book(k, 3, 5, 0), {} if bit is None else {4: bit}
+            assert answer(book, [1, 2, 4], [right, right, share], 1) == (right, wrong)
+            assert answer(book, [1, 2, 4, 5], [right, right, share, right], 1) == (right, wrong)
+    both = [(5, 2, 0), (5, 2, 4), (5, 2, 0), (5 + 16, 3, 0), (5, 2, 0)]
+    assert answer(Book(3, 3, 5, 0), [1, 2, 3, 4, 5], both, 2) == (right, {2: 2, 4: 0})
+    line = Book(3, 3, 7, 1)
+    shares = deal(line, right, [(3, 1, 0)])
+    shares[3], shares[7] = (tuple(x ^ y for x, y in zip(shares[i], by)) for i, by in ((3, (4, 0, 2)), (7, (8, 0, 4))))
+    assert answer(line, list(shares), list(shares.values()), 2) == (right, {3: 1, 7: 2})
 
 
 def test_bundle():
     """The paper's sample, and the calls on a bundle."""
     data = sample()
     assert len(data) == 256
-    assert listing(data) == "job state wrong words\n10 open 3 -3,2\n11 6 - -\n"
+    assert listing(data) == "job state wrong words\n10 open 3/2 -3,2\n11 6 - -\n"
     assert fetch(data, 3, 0) == struct.pack("<3Q", 10, 1, 2)
     assert total(data, 1, 0, 2) == (2, 4) and total(data, 1, 2, 2) == (0, 0)
-    assert open_place(data, 0) == ((5, 2), [3]) and open_run(data, 2, 2) == ((0, 0), [])
+    assert open_place(data, 0) == open_run(data, 0, 1) == ((5, 2), {3: 2}) and open_run(data, 2, 2) == ((0, 0), {})
     assert [number_of(fetch, data, *where) for where in ((0, 9), (4, 0), (1, 2), (1, 1))] == [4, 4, 9, 0]
     assert [number_of(open_run, data, a, b) for a, b in ((1, 0), (0, 3), (3, 3), (0, 2), (0, 1))] == [9, 9, 9, 6, 0]
     assert number_of(open_place, data, 1) == 6 and number_of(open_place, data, 2) == 9
@@ -827,15 +872,15 @@ def test_large(rng):
         for _ in range(3):
             words = random_element(rng, ring)
             shares = deal(book, words, [random_element(rng, ring) for _ in range(book.t)])
-            wrong = sorted(rng.sample(sorted(shares), rng.randint(0, e)))
-            for i in wrong:
-                shares[i] = ring.add(shares[i], (1 << rng.randrange(ring.k),) + ring.zero[1:])
+            wrong = {i: rng.randrange(ring.k) for i in sorted(rng.sample(sorted(shares), rng.randint(0, e)))}
+            for i, bit in wrong.items():  # higher bits change where the sum carries
+                shares[i] = ring.add(shares[i], (1 << bit,) + ring.zero[1:])
             assert open_shares(book, shares, e) == (words, wrong)
             if ring.k < 64:
                 wide = {i: widened(rng, ring, share, 1) if i in wrong and rng.random() < 0.5 else share for i, share in shares.items()}
                 assert open_shares(book, wide, e) == (words, wrong)
             by = random_element(rng, ring)
-            if any(x % 2 for x in by):  # "dealt shares so multiplied .. open to the job times that element"
+            if any(x % 2 for x in by):  # "dealt shares so multiplied .. open to the job times that element", and the lowest bits stay
                 scaled = {i: ring.mul(by, share) for i, share in shares.items()}
                 assert open_shares(book, scaled, e) == (ring.mul(by, words), wrong)
 
@@ -872,7 +917,7 @@ def test_runs(rng):
         a, b = sorted(rng.choices(range(jobs + 1), k=2))
         data, middle, lent = order(e) + b"".join(files), rng.randint(a, b), random_element(rng, ring)
         words, wrong = open_run(data, a, b)
-        assert wrong == ([5] if a <= 3 < b else [])
+        assert wrong == ({5: 31} if a <= 3 < b else {})
         for i in range(1, 7):
             assert add_total(data, i, a, b, lent) == ring.add(lent, total(data, i, a, b))
             assert add_total(data, i, middle, b, add_total(data, i, a, middle, lent)) == add_total(data, i, a, b, lent)
@@ -884,6 +929,7 @@ def selftest():
     rng = random.Random(1)
     test_marked()
     test_wide()
+    test_lowest()
     test_bundle()
     test_added()
     test_mended()

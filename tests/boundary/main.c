@@ -29,6 +29,7 @@ static struct {
     uint64_t words[512];
     uint64_t between[8];
     uint64_t second[8];
+    uint8_t lowest[YIKES_LOWEST + 8];
     uint8_t bytes[8192];
     uint64_t after[8];
 } o, fresh;
@@ -47,6 +48,20 @@ static int now_holds(const uint64_t *words, size_t n, const uint64_t *second, si
     if (n != 0) memcpy(fresh.words, words, n * sizeof *words);
     if (m != 0) memcpy(fresh.second, second, m * sizeof *second);
     return untouched();
+}
+
+/* The same of an opening that names a set, with the lowest bits of its holders at their places. */
+static int now_names(const uint64_t *words, size_t n, uint64_t set, const uint8_t *bits) {
+    size_t i;
+    for (i = 0; i < YIKES_LOWEST; i++) fresh.lowest[i] = set >> i & 1 ? bits[i] : YIKES_NOT_WRONG;
+    return now_holds(words, n, &set, 1);
+}
+
+/* The same of one that names a single holder, or nobody for 0. */
+static int now_opens(const uint64_t *words, size_t n, size_t holder, uint8_t bit) {
+    uint8_t bits[YIKES_LOWEST] = {0};
+    if (holder != 0) bits[holder - 1] = bit;
+    return now_names(words, n, holder == 0 ? 0 : UINT64_C(1) << (holder - 1), bits);
 }
 
 static int now_bytes(const void *bytes, size_t n) {
@@ -69,6 +84,7 @@ static int now_bytes(const void *bytes, size_t n) {
 #define BOOK 3, 2, 3
 #define OUT o.words, 2
 #define SECOND o.second, 1
+#define LOWEST o.lowest, YIKES_LOWEST
 #define ABOUT o.words, YIKES_ABOUT
 #define PART o.words, 3
 #define STEP o.words, 4
@@ -132,23 +148,24 @@ static void elements(void) {
 static void sharing(void) {
     const uint64_t job[2] = {5, 2}, other[2] = {3, 1}, shares[6] = {0, 3, 4, 4, 7, 5}, wide[6] = {0, 3, 4, 8, 7, 5};
     const uint64_t moved[6] = {0, 3, 4, 4, 3, 5}, two[4] = {0, 3, 3, 5}, constant[6] = {5, 2, 5, 2, 1, 2}, same[6] = {5, 2, 5, 2, 5, 2};
-    const uint64_t all[3] = {1, 2, 3}, ends[2] = {1, 3}, m7[2] = {1, 6}, none[1] = {0}, first[1] = {1}, third[1] = {4};
+    const uint64_t all[3] = {1, 2, 3}, ends[2] = {1, 3}, m7[2] = {1, 6};
     const uint64_t one_wide[6] = {5, 2, 5, 2, 13, 2}, both_words[6] = {8, UINT64_MAX, 5, 2, 5, 2}, two_wide[6] = {13, 2, 5, 2, 5, 10};
     const uint64_t beside_wrong[6] = {13, 2, 5, 2, 1, 2};
     const uint64_t zeroth[3] = {0, 1, 2}, fourth[3] = {1, 2, 4}, twice[3] = {1, 1, 3}, falling[3] = {2, 1, 3}, far[3] = {1, 2, UINT64_MAX};
     size_t i;
 
     GIVES(yikes_deal(BOOK, 1, job, 2, other, 2, o.words, 6), now_holds(shares, 6, NULL, 0));
-    GIVES(yikes_open(BOOK, 1, all, 3, shares, 6, 0, OUT, SECOND), now_holds(job, 2, none, 1));
-    GIVES(yikes_open(BOOK, 1, ends, 2, two, 4, 0, OUT, SECOND), now_holds(m7, 2, none, 1));
-    GIVES(yikes_open(BOOK, 0, all, 3, constant, 6, 1, OUT, SECOND), now_holds(job, 2, third, 1));
+    GIVES(yikes_open(BOOK, 1, all, 3, shares, 6, 0, OUT, SECOND, LOWEST), now_opens(job, 2, 0, 0));
+    GIVES(yikes_open(BOOK, 1, ends, 2, two, 4, 0, OUT, SECOND, LOWEST), now_opens(m7, 2, 0, 0));
+    GIVES(yikes_open(BOOK, 0, all, 3, constant, 6, 1, OUT, SECOND, LOWEST), now_opens(job, 2, 3, 2));
 
     for (i = 0; i < COUNT(outside); i++) {
         const uint64_t k = outside[i].k;
         const size_t d = outside[i].d, n = outside[i].n, t = outside[i].t;
         DECLINES(YIKES_PARAMETERS, yikes_deal(k, d, n, t, job, 2, other, 2, o.words, 6));
-        DECLINES(YIKES_PARAMETERS, yikes_open(k, d, n, t, all, 3, shares, 6, 0, OUT, SECOND));
-        DECLINES(YIKES_PARAMETERS, yikes_open(k, d, n, t, NULL, 0, NULL, 0, UINT64_MAX, NULL, 0, NULL, 0));
+        DECLINES(YIKES_PARAMETERS, yikes_open(k, d, n, t, all, 3, shares, 6, 0, OUT, SECOND, LOWEST));
+        DECLINES(YIKES_PARAMETERS, yikes_open(k, d, n, t, all, 3, shares, 6, 0, OUT, SECOND, o.lowest, 63));
+        DECLINES(YIKES_PARAMETERS, yikes_open(k, d, n, t, NULL, 0, NULL, 0, UINT64_MAX, NULL, 0, NULL, 0, NULL, 0));
         DECLINES(YIKES_PARAMETERS, yikes_deal(k, d, n, t, NULL, 0, NULL, 0, NULL, 0));
     }
 
@@ -165,45 +182,94 @@ static void sharing(void) {
     /* with t 0 there are no coefficients, and none is right */
     GIVES(yikes_deal(BOOK, 0, job, 2, NULL, 0, o.words, 6), now_holds(same, 6, NULL, 0));
 
-    DECLINES(YIKES_LENGTH, yikes_open(BOOK, 1, all, 3, shares, 5, 0, OUT, SECOND));
-    DECLINES(YIKES_LENGTH, yikes_open(BOOK, 1, all, 3, shares, 4, 0, OUT, SECOND));
-    DECLINES(YIKES_LENGTH, yikes_open(BOOK, 1, all, 2, shares, 6, 0, OUT, SECOND));
-    DECLINES(YIKES_LENGTH, yikes_open(BOOK, 1, all, 3, shares, 6, 0, o.words, 1, SECOND));
-    DECLINES(YIKES_LENGTH, yikes_open(BOOK, 1, all, 3, shares, 6, 0, o.words, 3, SECOND));
-    DECLINES(YIKES_LENGTH, yikes_open(BOOK, 1, all, 3, shares, 6, 0, NULL, 0, SECOND));
-    DECLINES(YIKES_LENGTH, yikes_open(BOOK, 1, all, 3, shares, 6, 0, OUT, NULL, 0));
-    DECLINES(YIKES_LENGTH, yikes_open(BOOK, 1, all, 3, shares, 6, 0, OUT, o.second, 2));
-    DECLINES(YIKES_LENGTH, yikes_open(BOOK, 1, zeroth, 3, wide, 6, UINT64_MAX, OUT, o.second, HUGE_LENGTH));
-    DECLINES(YIKES_LENGTH, yikes_open(BOOK, 1, all, 3, NULL, 0, 0, OUT, SECOND));
-    DECLINES(YIKES_LENGTH, yikes_open(BOOK, 1, NULL, 0, shares, 6, 0, OUT, SECOND));
+    DECLINES(YIKES_LENGTH, yikes_open(BOOK, 1, all, 3, shares, 5, 0, OUT, SECOND, LOWEST));
+    DECLINES(YIKES_LENGTH, yikes_open(BOOK, 1, all, 3, shares, 4, 0, OUT, SECOND, LOWEST));
+    DECLINES(YIKES_LENGTH, yikes_open(BOOK, 1, all, 2, shares, 6, 0, OUT, SECOND, LOWEST));
+    DECLINES(YIKES_LENGTH, yikes_open(BOOK, 1, all, 3, shares, 6, 0, o.words, 1, SECOND, LOWEST));
+    DECLINES(YIKES_LENGTH, yikes_open(BOOK, 1, all, 3, shares, 6, 0, o.words, 3, SECOND, LOWEST));
+    DECLINES(YIKES_LENGTH, yikes_open(BOOK, 1, all, 3, shares, 6, 0, NULL, 0, SECOND, LOWEST));
+    DECLINES(YIKES_LENGTH, yikes_open(BOOK, 1, all, 3, shares, 6, 0, OUT, NULL, 0, LOWEST));
+    DECLINES(YIKES_LENGTH, yikes_open(BOOK, 1, all, 3, shares, 6, 0, OUT, o.second, 2, LOWEST));
+    DECLINES(YIKES_LENGTH, yikes_open(BOOK, 1, zeroth, 3, wide, 6, UINT64_MAX, OUT, o.second, HUGE_LENGTH, LOWEST));
+    DECLINES(YIKES_LENGTH, yikes_open(BOOK, 1, zeroth, 3, wide, 6, UINT64_MAX, OUT, SECOND, o.lowest, 63));
+    DECLINES(YIKES_LENGTH, yikes_open(BOOK, 1, all, 3, shares, 6, 0, OUT, SECOND, o.lowest, 63));
+    DECLINES(YIKES_LENGTH, yikes_open(BOOK, 1, all, 3, shares, 6, 0, OUT, SECOND, o.lowest, 65));
+    DECLINES(YIKES_LENGTH, yikes_open(BOOK, 1, all, 3, shares, 6, 0, OUT, SECOND, o.lowest, 0));
+    DECLINES(YIKES_LENGTH, yikes_open(BOOK, 1, all, 3, shares, 6, 0, OUT, SECOND, NULL, 0));
+    DECLINES(YIKES_LENGTH, yikes_open(BOOK, 1, all, 3, shares, 6, 0, OUT, SECOND, o.lowest, 3));
+    DECLINES(YIKES_LENGTH, yikes_open(BOOK, 1, all, 3, shares, 6, 0, OUT, SECOND, o.lowest, HUGE_LENGTH));
+    DECLINES(YIKES_LENGTH, yikes_open(BOOK, 1, all, 3, NULL, 0, 0, OUT, SECOND, LOWEST));
+    DECLINES(YIKES_LENGTH, yikes_open(BOOK, 1, NULL, 0, shares, 6, 0, OUT, SECOND, LOWEST));
     /* lengths that no object has: holders times d is 0, 2 or 6 modulo 2^64 */
-    DECLINES(YIKES_LENGTH, yikes_open(BOOK, 1, all, SIZE_MAX / 2 + 1, shares, 0, 0, OUT, SECOND));
-    DECLINES(YIKES_LENGTH, yikes_open(BOOK, 1, all, SIZE_MAX / 2 + 2, shares, 2, 0, OUT, SECOND));
-    DECLINES(YIKES_LENGTH, yikes_open(BOOK, 1, all, SIZE_MAX / 2 + 4, shares, 6, 0, OUT, SECOND));
-    DECLINES(YIKES_LENGTH, yikes_open(3, 4, 15, 1, all, SIZE_MAX / 4 + 1, shares, 0, 0, o.words, 4, SECOND));
-    DECLINES(YIKES_HOLDER, yikes_open(BOOK, 1, zeroth, 3, wide, 6, 0, OUT, SECOND));
-    DECLINES(YIKES_HOLDER, yikes_open(BOOK, 1, fourth, 3, shares, 6, 0, OUT, SECOND));
-    DECLINES(YIKES_HOLDER, yikes_open(BOOK, 1, twice, 3, shares, 6, 0, OUT, SECOND));
-    DECLINES(YIKES_HOLDER, yikes_open(BOOK, 1, falling, 3, shares, 6, 0, OUT, SECOND));
-    DECLINES(YIKES_HOLDER, yikes_open(BOOK, 1, far, 3, shares, 6, 0, OUT, SECOND));
-    DECLINES(YIKES_TOO_FEW_SHARES, yikes_open(BOOK, 1, all, 3, shares, 6, 1, OUT, SECOND));
-    DECLINES(YIKES_TOO_FEW_SHARES, yikes_open(BOOK, 1, all, 3, shares, 6, UINT64_MAX, OUT, SECOND));
-    DECLINES(YIKES_TOO_FEW_SHARES, yikes_open(BOOK, 1, all, 3, shares, 6, UINT64_C(1) << 63, OUT, SECOND));
-    DECLINES(YIKES_TOO_FEW_SHARES, yikes_open(BOOK, 1, NULL, 0, NULL, 0, 0, OUT, SECOND));
-    DECLINES(YIKES_NO_CODEWORD, yikes_open(BOOK, 1, all, 3, moved, 6, 0, OUT, SECOND));
+    DECLINES(YIKES_LENGTH, yikes_open(BOOK, 1, all, SIZE_MAX / 2 + 1, shares, 0, 0, OUT, SECOND, LOWEST));
+    DECLINES(YIKES_LENGTH, yikes_open(BOOK, 1, all, SIZE_MAX / 2 + 2, shares, 2, 0, OUT, SECOND, LOWEST));
+    DECLINES(YIKES_LENGTH, yikes_open(BOOK, 1, all, SIZE_MAX / 2 + 4, shares, 6, 0, OUT, SECOND, LOWEST));
+    DECLINES(YIKES_LENGTH, yikes_open(3, 4, 15, 1, all, SIZE_MAX / 4 + 1, shares, 0, 0, o.words, 4, SECOND, LOWEST));
+    DECLINES(YIKES_HOLDER, yikes_open(BOOK, 1, zeroth, 3, wide, 6, 0, OUT, SECOND, LOWEST));
+    DECLINES(YIKES_HOLDER, yikes_open(BOOK, 1, fourth, 3, shares, 6, 0, OUT, SECOND, LOWEST));
+    DECLINES(YIKES_HOLDER, yikes_open(BOOK, 1, twice, 3, shares, 6, 0, OUT, SECOND, LOWEST));
+    DECLINES(YIKES_HOLDER, yikes_open(BOOK, 1, falling, 3, shares, 6, 0, OUT, SECOND, LOWEST));
+    DECLINES(YIKES_HOLDER, yikes_open(BOOK, 1, far, 3, shares, 6, 0, OUT, SECOND, LOWEST));
+    DECLINES(YIKES_TOO_FEW_SHARES, yikes_open(BOOK, 1, all, 3, shares, 6, 1, OUT, SECOND, LOWEST));
+    DECLINES(YIKES_TOO_FEW_SHARES, yikes_open(BOOK, 1, all, 3, shares, 6, UINT64_MAX, OUT, SECOND, LOWEST));
+    DECLINES(YIKES_TOO_FEW_SHARES, yikes_open(BOOK, 1, all, 3, shares, 6, UINT64_C(1) << 63, OUT, SECOND, LOWEST));
+    DECLINES(YIKES_TOO_FEW_SHARES, yikes_open(BOOK, 1, NULL, 0, NULL, 0, 0, OUT, SECOND, LOWEST));
+    DECLINES(YIKES_NO_CODEWORD, yikes_open(BOOK, 1, all, 3, moved, 6, 0, OUT, SECOND, LOWEST));
 
     /* a share with a wide word is present and wrong: its holder is named, and it counts for 5 and for 6 */
-    GIVES(yikes_open(BOOK, 0, all, 3, one_wide, 6, 1, OUT, SECOND), now_holds(job, 2, third, 1));
-    GIVES(yikes_open(BOOK, 0, all, 3, both_words, 6, 1, OUT, SECOND), now_holds(job, 2, first, 1));
-    DECLINES(YIKES_NO_CODEWORD, yikes_open(BOOK, 0, all, 3, one_wide, 6, 0, OUT, SECOND));
-    DECLINES(YIKES_NO_CODEWORD, yikes_open(BOOK, 0, all, 3, two_wide, 6, 1, OUT, SECOND));
-    DECLINES(YIKES_NO_CODEWORD, yikes_open(BOOK, 0, all, 3, beside_wrong, 6, 1, OUT, SECOND));
-    DECLINES(YIKES_NO_CODEWORD, yikes_open(BOOK, 1, all, 3, wide, 6, 0, OUT, SECOND));
-    DECLINES(YIKES_NO_CODEWORD, yikes_open(BOOK, 0, all, 1, two_wide, 2, 0, OUT, SECOND));
-    DECLINES(YIKES_TOO_FEW_SHARES, yikes_open(BOOK, 1, all, 3, wide, 6, 1, OUT, SECOND));
-    DECLINES(YIKES_TOO_FEW_SHARES, yikes_open(BOOK, 0, all, 2, two_wide, 4, 1, OUT, SECOND));
-    DECLINES(YIKES_LENGTH, yikes_open(BOOK, 0, all, 3, one_wide, 6, 1, o.words, 3, SECOND));
-    DECLINES(YIKES_HOLDER, yikes_open(BOOK, 0, falling, 3, one_wide, 6, 1, OUT, SECOND));
+    GIVES(yikes_open(BOOK, 0, all, 3, one_wide, 6, 1, OUT, SECOND, LOWEST), now_opens(job, 2, 3, 3));
+    GIVES(yikes_open(BOOK, 0, all, 3, both_words, 6, 1, OUT, SECOND, LOWEST), now_opens(job, 2, 1, 0));
+    DECLINES(YIKES_NO_CODEWORD, yikes_open(BOOK, 0, all, 3, one_wide, 6, 0, OUT, SECOND, LOWEST));
+    DECLINES(YIKES_NO_CODEWORD, yikes_open(BOOK, 0, all, 3, two_wide, 6, 1, OUT, SECOND, LOWEST));
+    DECLINES(YIKES_NO_CODEWORD, yikes_open(BOOK, 0, all, 3, beside_wrong, 6, 1, OUT, SECOND, LOWEST));
+    DECLINES(YIKES_NO_CODEWORD, yikes_open(BOOK, 1, all, 3, wide, 6, 0, OUT, SECOND, LOWEST));
+    DECLINES(YIKES_NO_CODEWORD, yikes_open(BOOK, 0, all, 1, two_wide, 2, 0, OUT, SECOND, LOWEST));
+    DECLINES(YIKES_TOO_FEW_SHARES, yikes_open(BOOK, 1, all, 3, wide, 6, 1, OUT, SECOND, LOWEST));
+    DECLINES(YIKES_TOO_FEW_SHARES, yikes_open(BOOK, 0, all, 2, two_wide, 4, 1, OUT, SECOND, LOWEST));
+    DECLINES(YIKES_LENGTH, yikes_open(BOOK, 0, all, 3, one_wide, 6, 1, o.words, 3, SECOND, LOWEST));
+    DECLINES(YIKES_HOLDER, yikes_open(BOOK, 0, falling, 3, one_wide, 6, 1, OUT, SECOND, LOWEST));
+}
+
+/* The lowest bit at which a share differs over all its words, of a wide word at all 64 bits. Holders 1, 2, 4, 5 and 63 have shares of (5, 2, 0, ..),
+ * one of them that of the row, and another 16 for its last word. */
+static void lowest_bits(void) {
+    static const struct {
+        uint64_t k, share[3];
+        uint8_t bit;
+    } rows[] = {{6, {5 ^ 32, 2, 2}, 1},
+                {6, {5 ^ 2, 2, 32}, 1},
+                {6, {5 ^ 34, 2, 0}, 1},
+                {6, {4, 2, 0}, 0},
+                {6, {5, 2, 32}, 5},
+                {6, {5 ^ 63, 2 ^ 63, 63}, 0},
+                {6, {5 ^ 32, 2 ^ 32, 32}, 5},
+                {6, {5 + 64, 2, 0}, 6},
+                {6, {5, 2, UINT64_C(1) << 63}, 63},
+                {6, {5 + (UINT64_C(1) << 63), 2, 64}, 6},
+                {6, {5 + 64, 2, 4}, 2},
+                {6, {5 ^ 4, 2 + (UINT64_C(1) << 40), 0}, 2},
+                {6, {5, 2 ^ 72, 0}, 3},
+                {63, {5, 2, UINT64_C(1) << 63}, 63},
+                {64, {5, 2, UINT64_C(1) << 63}, 63},
+                {64, {5 + (UINT64_C(1) << 62), 2, UINT64_C(1) << 63}, 62},
+                {64, {~UINT64_C(5), ~UINT64_C(2), UINT64_MAX}, 0},
+                {6, {5, 2, 0}, YIKES_NOT_WRONG}};
+    const uint64_t holders[5] = {1, 2, 4, 5, 63}, right[6] = {5, 2};
+    size_t i, j, h;
+    for (i = 0; i < COUNT(rows); i++) {
+        for (j = 0; j < 5; j++) {
+            const size_t other = (j + 2) % 5;
+            uint64_t shares[30], set = UINT64_C(1) << (holders[other] - 1);
+            uint8_t bits[YIKES_LOWEST] = {0};
+            for (h = 0; h < 5; h++) memcpy(shares + 6 * h, right, sizeof right);
+            memcpy(shares + 6 * j, rows[i].share, sizeof rows[i].share);
+            shares[6 * other + 5] = 16;
+            bits[holders[other] - 1] = 4;
+            bits[holders[j] - 1] = rows[i].bit;
+            if (rows[i].bit != YIKES_NOT_WRONG) set |= UINT64_C(1) << (holders[j] - 1);
+            GIVES(yikes_open(rows[i].k, 6, 63, 0, holders, 5, shares, 30, 2, o.words, 6, SECOND, LOWEST), now_names(right, 6, set, bits));
+        }
+    }
 }
 
 static uint64_t state = 1;
@@ -211,23 +277,33 @@ static uint64_t draw(void) {
     return state = state * UINT64_C(6364136223846793005) + 1442695040888963407u;
 }
 
-/* The largest book, 63 shares of six words of k bits, 21 of them damaged: the highest bit of half of these is wrong with k 64, and wide below. */
+/* Turns a bit over in a word of a share, and keeps the lowest so far. */
+static void turn(uint64_t *share, size_t word, uint64_t bit, uint8_t *lowest) {
+    share[word] ^= UINT64_C(1) << bit;
+    if (bit < *lowest) *lowest = (uint8_t)bit;
+}
+
+/* The largest book, 63 shares of six words of k bits, 21 of them damaged: half of these in bit 63, which is wide below k 64, the others in bit
+ * k - 1, and most in a lower bit of another word too. */
 static void largest(uint64_t k) {
     uint64_t job[6], coefficients[20 * 6], shares[63 * 6], holders[63], set = 0;
+    uint8_t lowest[YIKES_LOWEST];
     size_t i;
+    memset(lowest, YIKES_NOT_WRONG, sizeof lowest);
     for (i = 0; i < 6; i++) job[i] = draw() >> (64 - k);
     for (i = 0; i < COUNT(coefficients); i++) coefficients[i] = draw() >> (64 - k);
     check(yikes_deal(k, 6, 63, 20, job, 6, coefficients, COUNT(coefficients), shares, COUNT(shares)) == YIKES_OK, __LINE__, "deal");
     for (i = 0; i < 63; i++) {
         holders[i] = i + 1;
         if (i % 3 == 1) {
-            shares[i * 6 + i % 6] ^= i % 2 == 0 ? UINT64_C(1) << 63 : i;
+            turn(shares + i * 6, i % 6, i % 2 == 0 ? 63 : k - 1, lowest + i);
+            if (i % 4 != 0) turn(shares + i * 6, (i + 3) % 6, i % k, lowest + i);
             set |= UINT64_C(1) << i;
         }
     }
-    GIVES(yikes_open(k, 6, 63, 20, holders, 63, shares, COUNT(shares), 21, o.words, 6, SECOND), now_holds(job, 6, &set, 1));
-    DECLINES(YIKES_NO_CODEWORD, yikes_open(k, 6, 63, 20, holders, 63, shares, COUNT(shares), 20, o.words, 6, SECOND));
-    DECLINES(YIKES_TOO_FEW_SHARES, yikes_open(k, 6, 63, 20, holders, 63, shares, COUNT(shares), 22, o.words, 6, SECOND));
+    GIVES(yikes_open(k, 6, 63, 20, holders, 63, shares, COUNT(shares), 21, o.words, 6, SECOND, LOWEST), now_names(job, 6, set, lowest));
+    DECLINES(YIKES_NO_CODEWORD, yikes_open(k, 6, 63, 20, holders, 63, shares, COUNT(shares), 20, o.words, 6, SECOND, LOWEST));
+    DECLINES(YIKES_TOO_FEW_SHARES, yikes_open(k, 6, 63, 20, holders, 63, shares, COUNT(shares), 22, o.words, 6, SECOND, LOWEST));
 }
 
 static void readings(void) {
@@ -336,15 +412,17 @@ static const uint8_t *changed(size_t at, uint8_t value) {
 /* Every call on a bundle declines with the bundle's own number first, whatever else is wrong. */
 static void refuses(uint8_t number, const uint8_t *bytes, size_t n) {
     DECLINES(number, yikes_accept(bytes, n));
-    DECLINES(number, yikes_open_place(bytes, n, 0, OUT, SECOND));
-    DECLINES(number, yikes_open_place(bytes, n, SIZE_MAX, NULL, 0, NULL, 0));
-    DECLINES(number, yikes_open_place(bytes, n, 0, OUT, o.second, 2));
+    DECLINES(number, yikes_open_place(bytes, n, 0, OUT, SECOND, LOWEST));
+    DECLINES(number, yikes_open_place(bytes, n, SIZE_MAX, NULL, 0, NULL, 0, NULL, 0));
+    DECLINES(number, yikes_open_place(bytes, n, 0, OUT, o.second, 2, LOWEST));
+    DECLINES(number, yikes_open_place(bytes, n, 0, OUT, SECOND, o.lowest, 63));
     DECLINES(number, yikes_total(bytes, n, 1, 0, 2, OUT));
     DECLINES(number, yikes_total(bytes, n, 0, 9, 8, NULL, 0));
     DECLINES(number, yikes_add_total(bytes, n, 1, 0, 2, OUT));
     DECLINES(number, yikes_add_total(bytes, n, 0, 9, 8, NULL, 0));
-    DECLINES(number, yikes_open_run(bytes, n, 0, 1, OUT, SECOND));
-    DECLINES(number, yikes_open_run(bytes, n, SIZE_MAX, 0, NULL, 0, NULL, 0));
+    DECLINES(number, yikes_open_run(bytes, n, 0, 1, OUT, SECOND, LOWEST));
+    DECLINES(number, yikes_open_run(bytes, n, 0, 1, OUT, SECOND, o.lowest, 65));
+    DECLINES(number, yikes_open_run(bytes, n, SIZE_MAX, 0, NULL, 0, NULL, 0, NULL, 0));
     DECLINES(number, yikes_fetch_body(bytes, n, 1, 0, o.second, 2));
     DECLINES(number, yikes_fetch_body(bytes, n, 0, SIZE_MAX, NULL, 0));
     DECLINES(number, yikes_fetch_fault(bytes, n, 1, 0));
@@ -521,21 +599,25 @@ static void reading(void) {
 }
 
 static void openings(void) {
-    const uint64_t job[2] = {5, 2}, third[1] = {4}, none[1] = {0}, total[2] = {2, 4}, zero[2] = {0, 0}, body[2] = {149, 24};
+    const uint64_t job[2] = {5, 2}, total[2] = {2, 4}, zero[2] = {0, 0}, body[2] = {149, 24};
     const size_t n = sizeof bundle;
-    uint8_t wide[256], few[256], shown[512];
+    uint8_t wide[256], few[256], shown[YIKES_LINE];
     uint64_t length = 0;
 
     GIVES(yikes_accept(bundle, n), untouched());
-    GIVES(yikes_open_place(bundle, n, 0, OUT, SECOND), now_holds(job, 2, third, 1));
-    DECLINES(YIKES_NO_CODEWORD, yikes_open_place(bundle, n, 1, OUT, SECOND));
-    DECLINES(YIKES_OUT_OF_RANGE, yikes_open_place(bundle, n, 2, OUT, SECOND));
-    DECLINES(YIKES_OUT_OF_RANGE, yikes_open_place(bundle, n, SIZE_MAX, OUT, SECOND));
-    DECLINES(YIKES_LENGTH, yikes_open_place(bundle, n, 2, o.words, 1, SECOND));
-    DECLINES(YIKES_LENGTH, yikes_open_place(bundle, n, 2, NULL, 0, SECOND));
-    DECLINES(YIKES_LENGTH, yikes_open_place(bundle, n, 2, OUT, NULL, 0));
-    DECLINES(YIKES_LENGTH, yikes_open_place(bundle, n, 0, OUT, o.second, 2));
-    DECLINES(YIKES_LENGTH, yikes_open_place(bundle, n, 0, o.words, HUGE_LENGTH, o.second, HUGE_LENGTH));
+    GIVES(yikes_open_place(bundle, n, 0, OUT, SECOND, LOWEST), now_opens(job, 2, 3, 2));
+    DECLINES(YIKES_NO_CODEWORD, yikes_open_place(bundle, n, 1, OUT, SECOND, LOWEST));
+    DECLINES(YIKES_OUT_OF_RANGE, yikes_open_place(bundle, n, 2, OUT, SECOND, LOWEST));
+    DECLINES(YIKES_OUT_OF_RANGE, yikes_open_place(bundle, n, SIZE_MAX, OUT, SECOND, LOWEST));
+    DECLINES(YIKES_LENGTH, yikes_open_place(bundle, n, 2, o.words, 1, SECOND, LOWEST));
+    DECLINES(YIKES_LENGTH, yikes_open_place(bundle, n, 2, NULL, 0, SECOND, LOWEST));
+    DECLINES(YIKES_LENGTH, yikes_open_place(bundle, n, 2, OUT, NULL, 0, LOWEST));
+    DECLINES(YIKES_LENGTH, yikes_open_place(bundle, n, 0, OUT, o.second, 2, LOWEST));
+    DECLINES(YIKES_LENGTH, yikes_open_place(bundle, n, 0, o.words, HUGE_LENGTH, o.second, HUGE_LENGTH, LOWEST));
+    DECLINES(YIKES_LENGTH, yikes_open_place(bundle, n, 2, OUT, SECOND, o.lowest, 63));
+    DECLINES(YIKES_LENGTH, yikes_open_place(bundle, n, 0, OUT, SECOND, o.lowest, 65));
+    DECLINES(YIKES_LENGTH, yikes_open_place(bundle, n, 0, OUT, SECOND, NULL, 0));
+    DECLINES(YIKES_LENGTH, yikes_open_place(bundle, n, 1, OUT, SECOND, o.lowest, HUGE_LENGTH));
 
     GIVES(yikes_total(bundle, n, 1, 0, 2, OUT), now_holds(total, 2, NULL, 0));
     GIVES(yikes_total(bundle, n, 3, 2, 2, OUT), now_holds(zero, 2, NULL, 0));
@@ -549,15 +631,19 @@ static void openings(void) {
     DECLINES(YIKES_OUT_OF_RANGE, yikes_total(bundle, n, 1, 0, SIZE_MAX, OUT));
     DECLINES(YIKES_OUT_OF_RANGE, yikes_total(bundle, n, 1, SIZE_MAX, SIZE_MAX, OUT));
 
-    GIVES(yikes_open_run(bundle, n, 0, 1, OUT, SECOND), now_holds(job, 2, third, 1));
-    GIVES(yikes_open_run(bundle, n, 1, 1, OUT, SECOND), now_holds(zero, 2, none, 1));
-    DECLINES(YIKES_NO_CODEWORD, yikes_open_run(bundle, n, 0, 2, OUT, SECOND));
-    DECLINES(YIKES_LENGTH, yikes_open_run(bundle, n, 2, 1, o.words, 3, SECOND));
-    DECLINES(YIKES_LENGTH, yikes_open_run(bundle, n, 2, 1, OUT, NULL, 0));
-    DECLINES(YIKES_LENGTH, yikes_open_run(bundle, n, 0, 1, NULL, 0, SECOND));
-    DECLINES(YIKES_OUT_OF_RANGE, yikes_open_run(bundle, n, 2, 1, OUT, SECOND));
-    DECLINES(YIKES_OUT_OF_RANGE, yikes_open_run(bundle, n, 0, 3, OUT, SECOND));
-    DECLINES(YIKES_OUT_OF_RANGE, yikes_open_run(bundle, n, SIZE_MAX, SIZE_MAX, OUT, SECOND));
+    GIVES(yikes_open_run(bundle, n, 0, 1, OUT, SECOND, LOWEST), now_opens(job, 2, 3, 2));
+    GIVES(yikes_open_run(bundle, n, 1, 1, OUT, SECOND, LOWEST), now_opens(zero, 2, 0, 0));
+    DECLINES(YIKES_NO_CODEWORD, yikes_open_run(bundle, n, 0, 2, OUT, SECOND, LOWEST));
+    DECLINES(YIKES_LENGTH, yikes_open_run(bundle, n, 2, 1, o.words, 3, SECOND, LOWEST));
+    DECLINES(YIKES_LENGTH, yikes_open_run(bundle, n, 2, 1, OUT, NULL, 0, LOWEST));
+    DECLINES(YIKES_LENGTH, yikes_open_run(bundle, n, 0, 1, NULL, 0, SECOND, LOWEST));
+    DECLINES(YIKES_LENGTH, yikes_open_run(bundle, n, 2, 1, OUT, SECOND, o.lowest, 63));
+    DECLINES(YIKES_LENGTH, yikes_open_run(bundle, n, 0, 1, OUT, SECOND, o.lowest, 65));
+    DECLINES(YIKES_LENGTH, yikes_open_run(bundle, n, 0, 0, OUT, SECOND, NULL, 0));
+    DECLINES(YIKES_LENGTH, yikes_open_run(bundle, n, 0, 2, OUT, SECOND, o.lowest, HUGE_LENGTH));
+    DECLINES(YIKES_OUT_OF_RANGE, yikes_open_run(bundle, n, 2, 1, OUT, SECOND, LOWEST));
+    DECLINES(YIKES_OUT_OF_RANGE, yikes_open_run(bundle, n, 0, 3, OUT, SECOND, LOWEST));
+    DECLINES(YIKES_OUT_OF_RANGE, yikes_open_run(bundle, n, SIZE_MAX, SIZE_MAX, OUT, SECOND, LOWEST));
 
     GIVES(yikes_fetch_body(bundle, n, 2, 1, o.second, 2), now_holds(NULL, 0, body, 2));
     check(bundle[body[0]] == 11 && bundle[body[0] + 8] == 1 && bundle[body[0] + 16] == 2, __LINE__, "the body of job 11 of holder 2");
@@ -574,8 +660,8 @@ static void openings(void) {
 
     poison();
     check(yikes_list_line(bundle, n, 0, o.bytes, YIKES_LINE, SECOND) == YIKES_OK, __LINE__, "list_line");
-    length = 15;
-    check(now_holds(NULL, 0, &length, 1) == 0 && now_bytes("10 open 3 -3,2\n", 15), __LINE__, "the line of job 10");
+    length = 17;
+    check(now_holds(NULL, 0, &length, 1) == 0 && now_bytes("10 open 3/2 -3,2\n", 17), __LINE__, "the line of job 10");
     poison();
     check(yikes_list_line(bundle, n, 1, o.bytes, sizeof o.bytes, SECOND) == YIKES_OK, __LINE__, "list_line");
     length = 9;
@@ -590,36 +676,36 @@ static void openings(void) {
     /* holder 3's share of job 10 made right, and then wide above its right bits: it is wrong where the job is opened, 3 in a run or a total */
     memcpy(wide, bundle, n);
     wide[210] = 5;
-    GIVES(yikes_open_place(wide, n, 0, OUT, SECOND), now_holds(job, 2, none, 1));
+    GIVES(yikes_open_place(wide, n, 0, OUT, SECOND, LOWEST), now_opens(job, 2, 0, 0));
     wide[217] = 128;
     GIVES(yikes_accept(wide, n), untouched());
-    GIVES(yikes_open_place(wide, n, 0, OUT, SECOND), now_holds(job, 2, third, 1));
-    DECLINES(YIKES_NO_CODEWORD, yikes_open_place(wide, n, 1, OUT, SECOND));
-    DECLINES(YIKES_WIDE_WORD, yikes_open_run(wide, n, 0, 1, OUT, SECOND));
-    DECLINES(YIKES_WIDE_WORD, yikes_open_run(wide, n, 0, 2, OUT, SECOND));
-    DECLINES(YIKES_NO_CODEWORD, yikes_open_run(wide, n, 1, 2, OUT, SECOND));
-    GIVES(yikes_open_run(wide, n, 0, 0, OUT, SECOND), now_holds(zero, 2, none, 1));
+    GIVES(yikes_open_place(wide, n, 0, OUT, SECOND, LOWEST), now_opens(job, 2, 3, 63));
+    DECLINES(YIKES_NO_CODEWORD, yikes_open_place(wide, n, 1, OUT, SECOND, LOWEST));
+    DECLINES(YIKES_WIDE_WORD, yikes_open_run(wide, n, 0, 1, OUT, SECOND, LOWEST));
+    DECLINES(YIKES_WIDE_WORD, yikes_open_run(wide, n, 0, 2, OUT, SECOND, LOWEST));
+    DECLINES(YIKES_NO_CODEWORD, yikes_open_run(wide, n, 1, 2, OUT, SECOND, LOWEST));
+    GIVES(yikes_open_run(wide, n, 0, 0, OUT, SECOND, LOWEST), now_opens(zero, 2, 0, 0));
     DECLINES(YIKES_WIDE_WORD, yikes_total(wide, n, 3, 0, 1, OUT));
     GIVES(yikes_total(wide, n, 1, 0, 2, OUT), now_holds(total, 2, NULL, 0));
     poison();
     check(yikes_list_line(wide, n, 0, o.bytes, YIKES_LINE, SECOND) == YIKES_OK, __LINE__, "list_line");
-    length = 15;
-    check(now_holds(NULL, 0, &length, 1) == 0 && now_bytes("10 open 3 -3,2\n", 15), __LINE__, "the line of a job with a wide word");
+    length = 18;
+    check(now_holds(NULL, 0, &length, 1) == 0 && now_bytes("10 open 3/63 -3,2\n", 18), __LINE__, "the line of a job with a wide word");
     /* a second wide share is one more than the allowance, and with an allowance of 2 the files are too few */
     wide[44 + 8] |= 8;
-    DECLINES(YIKES_NO_CODEWORD, yikes_open_place(wide, n, 0, OUT, SECOND));
-    DECLINES(YIKES_WIDE_WORD, yikes_open_run(wide, n, 0, 1, OUT, SECOND));
+    DECLINES(YIKES_NO_CODEWORD, yikes_open_place(wide, n, 0, OUT, SECOND, LOWEST));
+    DECLINES(YIKES_WIDE_WORD, yikes_open_run(wide, n, 0, 1, OUT, SECOND, LOWEST));
     poison();
     check(yikes_list_line(wide, n, 0, o.bytes, YIKES_LINE, SECOND) == YIKES_OK && memcmp(o.bytes, "10 6 - -\n", 9) == 0, __LINE__, "two wide shares");
     wide[6] = 2;
-    DECLINES(YIKES_TOO_FEW_SHARES, yikes_open_place(wide, n, 0, OUT, SECOND));
-    DECLINES(YIKES_WIDE_WORD, yikes_open_run(wide, n, 0, 1, OUT, SECOND));
+    DECLINES(YIKES_TOO_FEW_SHARES, yikes_open_place(wide, n, 0, OUT, SECOND, LOWEST));
+    DECLINES(YIKES_WIDE_WORD, yikes_open_run(wide, n, 0, 1, OUT, SECOND, LOWEST));
 
     /* an allowance that the files are too few for */
     memcpy(few, bundle, n);
     few[6] = 2;
-    DECLINES(YIKES_TOO_FEW_SHARES, yikes_open_place(few, n, 0, OUT, SECOND));
-    DECLINES(YIKES_TOO_FEW_SHARES, yikes_open_run(few, n, 0, 0, OUT, SECOND));
+    DECLINES(YIKES_TOO_FEW_SHARES, yikes_open_place(few, n, 0, OUT, SECOND, LOWEST));
+    DECLINES(YIKES_TOO_FEW_SHARES, yikes_open_run(few, n, 0, 0, OUT, SECOND, LOWEST));
     memset(shown, 0, sizeof shown);
     check(yikes_list_line(few, n, 0, shown, sizeof shown, &length, 1) == YIKES_OK && length == 9 && memcmp(shown, "10 5 - -\n", 10) == 0, __LINE__,
           "too few files");
@@ -712,7 +798,7 @@ static void adding_many(uint64_t k) {
 
 /* Paper 02's example: in the bundle of 256 bytes holder 3's share of job 10 is replaced, and job 11, which declines, stays. */
 static void mending(void) {
-    const uint64_t job[2] = {5, 2}, none[1] = {0};
+    const uint64_t job[2] = {5, 2};
     const size_t n = sizeof bundle;
     uint8_t right[256], other[256], file[23], empty[30];
 
@@ -720,8 +806,8 @@ static void mending(void) {
     right[210] = 5;
     GIVES(yikes_mend(bundle, n, o.bytes, n), now_bytes(right, n));
     GIVES(yikes_mend(right, n, o.bytes, n), now_bytes(right, n));
-    GIVES(yikes_open_place(right, n, 0, OUT, SECOND), now_holds(job, 2, none, 1));
-    DECLINES(YIKES_NO_CODEWORD, yikes_open_place(right, n, 1, OUT, SECOND));
+    GIVES(yikes_open_place(right, n, 0, OUT, SECOND, LOWEST), now_opens(job, 2, 0, 0));
+    DECLINES(YIKES_NO_CODEWORD, yikes_open_place(right, n, 1, OUT, SECOND, LOWEST));
     DECLINES(YIKES_LENGTH, yikes_mend(bundle, n, o.bytes, n - 1));
     DECLINES(YIKES_LENGTH, yikes_mend(bundle, n, o.bytes, n + 1));
     DECLINES(YIKES_LENGTH, yikes_mend(bundle, n, o.bytes, 2 * n));
@@ -784,6 +870,7 @@ static void mending_largest(uint64_t k) {
 int main(void) {
     elements();
     sharing();
+    lowest_bits();
     largest(64);
     largest(63);
     largest(8);

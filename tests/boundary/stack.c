@@ -17,6 +17,7 @@ enum { K = 63, D = 6, N = 63, T = 20, E = 21, JOBS = 3, STACK = 1 << 20, FILE_BY
 #define JOB_WORDS (JOBS * D)
 
 static uint64_t job[D], coefficients[T * D], shares[N * D], holders[N], words[N][JOB_WORDS], out[YIKES_ABOUT], wrong[2], dealt[N * D], running[D];
+static uint8_t lowest[YIKES_LOWEST];
 static const uint64_t numbers[JOBS] = {1, 20, 300};
 static uint8_t files[N * FILE_BYTES], bundle[7 + N * FILE_BYTES], wide[sizeof bundle], copy[sizeof bundle], line[YIKES_LINE], order[7];
 
@@ -26,7 +27,7 @@ static void add(void) { answer = yikes_add(BOOK, shares, D, job, D, out, D); }
 static void scale(void) { answer = yikes_scale(BOOK, shares, D, job, D, out, D); }
 static void invert(void) { answer = yikes_invert(BOOK, job, D, out, D); }
 static void deal(void) { answer = yikes_deal(BOOK, job, D, coefficients, T * D, dealt, N * D); }
-static void open_shares(void) { answer = yikes_open(BOOK, holders, N, shares, N * D, E, out, D, wrong, 1); }
+static void open_shares(void) { answer = yikes_open(BOOK, holders, N, shares, N * D, E, out, D, wrong, 1, lowest, YIKES_LOWEST); }
 static void read_signed(void) { answer = yikes_signed(K, UINT64_MAX >> 1, out, 1); }
 static void write_file(void) { answer = yikes_write_file(BOOK, 1, 7, numbers, JOBS, words[0], JOB_WORDS, files, FILE_BYTES); }
 static void write_order(void) { answer = yikes_write_order(E, order, 7); }
@@ -37,13 +38,13 @@ static void accept(void) { answer = yikes_accept(bundle, sizeof bundle); }
 static void describe(void) { answer = yikes_describe(bundle, sizeof bundle, out, YIKES_ABOUT); }
 static void job_number(void) { answer = yikes_job_number(bundle, sizeof bundle, 1, out, 1); }
 static void file_part(void) { answer = yikes_file(bundle, sizeof bundle, N - 1, out, 3); }
-static void open_place(void) { answer = yikes_open_place(wide, sizeof wide, JOBS - 1, out, D, wrong, 1); }
+static void open_place(void) { answer = yikes_open_place(wide, sizeof wide, JOBS - 1, out, D, wrong, 1, lowest, YIKES_LOWEST); }
 static void total(void) { answer = yikes_total(bundle, sizeof bundle, N, 0, JOBS, out, D); }
 static void add_total(void) {
     answer = yikes_add_total(bundle, sizeof bundle, N, 0, JOBS, running, D);
     if (yikes_add_total(wide, sizeof wide, N - 1, 0, JOBS, running, D) != YIKES_WIDE_WORD) answer = 1;
 }
-static void open_run(void) { answer = yikes_open_run(bundle, sizeof bundle, 0, JOBS, out, D, wrong, 1); }
+static void open_run(void) { answer = yikes_open_run(bundle, sizeof bundle, 0, JOBS, out, D, wrong, 1, lowest, YIKES_LOWEST); }
 static void fetch_body(void) { answer = yikes_fetch_body(bundle, sizeof bundle, N, 1, wrong, 2); }
 static void fetch_fault(void) { answer = yikes_fetch_fault(bundle, sizeof bundle, N, 1); }
 static void list_line(void) { answer = yikes_list_line(wide, sizeof wide, JOBS - 1, line, sizeof line, wrong, 1); }

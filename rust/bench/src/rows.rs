@@ -2,7 +2,7 @@
 
 use compare::library;
 use compare::random::Random;
-use plain::{Params, Refusal};
+use plain::{Params, Refusal, HOLDERS};
 use std::cell::RefCell;
 use std::hint::black_box;
 
@@ -176,11 +176,24 @@ fn damage(random: &mut Random, book: Book, wrong: &[usize], damage: Damage, shar
     }
 }
 
-/// The answer, the set and the words of an opening stand one after another.
-fn parts(result: &mut [u64]) -> (&mut u64, &mut [u64], &mut [u64]) {
+/// What an opening leaves: the answer, the set, the lowest bits as bytes, and the words stand one after another.
+struct Parts<'a> {
+    answer: &'a mut u64,
+    wrong: &'a mut [u64],
+    lowest: &'a mut [u8],
+    words: &'a mut [u64],
+}
+
+fn parts(result: &mut [u64]) -> Parts<'_> {
     let (answer, rest) = result.split_first_mut().expect("an answer");
-    let (wrong, words) = rest.split_at_mut(1);
-    (answer, wrong, words)
+    let (wrong, rest) = rest.split_at_mut(1);
+    let (lowest, words) = rest.split_at_mut(HOLDERS / 8);
+    Parts { answer, wrong, lowest: as_bytes(lowest, HOLDERS), words }
+}
+
+/// The words that this takes for d words of a job.
+const fn size_of_parts(d: usize) -> usize {
+    2 + HOLDERS / 8 + d
 }
 
 fn opening(random: &mut Random, book: Book, kind: Option<Damage>) -> Work {
@@ -196,15 +209,15 @@ fn opening(random: &mut Random, book: Book, kind: Option<Damage>) -> Work {
         inputs.push(shares);
     }
     let call: Call = Box::new(move |side, out| {
-        for (shares, result) in inputs.iter().zip(out.chunks_mut(p.d + 2)) {
-            let (answer, wrong, words) = parts(result);
+        for (shares, result) in inputs.iter().zip(out.chunks_mut(size_of_parts(p.d))) {
+            let Parts { answer, wrong, lowest, words } = parts(result);
             *answer = u64::from(match side {
-                Side::Library => library::open(p, &present, shares, e as u64, words, wrong),
-                Side::Plain => number(plain::open(p, &present, shares, e as u64, words, wrong)),
+                Side::Library => library::open(p, &present, shares, e as u64, words, wrong, lowest),
+                Side::Plain => number(plain::open(p, &present, shares, e as u64, words, wrong, lowest)),
             });
         }
     });
-    Work { out: vec![0; INPUTS * (p.d + 2)], call }
+    Work { out: vec![0; INPUTS * size_of_parts(p.d)], call }
 }
 
 /// A bundle of all holders' files.
@@ -237,15 +250,15 @@ fn places(random: &mut Random, book: Book, who: Wrong) -> Work {
     let d = book.p.d;
     let bytes = bundle(random, book, PLACES, who);
     let call: Call = Box::new(move |side, out| {
-        for (place, result) in out.chunks_mut(d + 2).enumerate() {
-            let (answer, wrong, words) = parts(result);
+        for (place, result) in out.chunks_mut(size_of_parts(d)).enumerate() {
+            let Parts { answer, wrong, lowest, words } = parts(result);
             *answer = u64::from(match side {
-                Side::Library => library::open_place(&bytes, place, words, wrong),
-                Side::Plain => number(plain::open_place(&bytes, place, words, wrong)),
+                Side::Library => library::open_place(&bytes, place, words, wrong, lowest),
+                Side::Plain => number(plain::open_place(&bytes, place, words, wrong, lowest)),
             });
         }
     });
-    Work { out: vec![0; PLACES * (d + 2)], call }
+    Work { out: vec![0; PLACES * size_of_parts(d)], call }
 }
 
 fn accepting(random: &mut Random, book: Book) -> Work {
@@ -332,13 +345,13 @@ fn adding_beside_total(random: &mut Random, book: Book) -> Work {
 fn run(random: &mut Random, book: Book) -> Work {
     let bytes = bundle(random, book, JOBS, Wrong::Same);
     let call: Call = Box::new(move |side, out| {
-        let (answer, wrong, words) = parts(out);
+        let Parts { answer, wrong, lowest, words } = parts(out);
         *answer = u64::from(match side {
-            Side::Library => library::open_run(&bytes, 0, JOBS, words, wrong),
-            Side::Plain => number(plain::open_run(&bytes, 0, JOBS, words, wrong)),
+            Side::Library => library::open_run(&bytes, 0, JOBS, words, wrong, lowest),
+            Side::Plain => number(plain::open_run(&bytes, 0, JOBS, words, wrong, lowest)),
         });
     });
-    Work { out: vec![0; book.p.d + 2], call }
+    Work { out: vec![0; size_of_parts(book.p.d)], call }
 }
 
 /// The largest bundle that the programs take.

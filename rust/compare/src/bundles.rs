@@ -1,12 +1,13 @@
 //! Bundles, valid, damaged and faulty, and every call on them.
 
 use crate::library;
+use crate::lowest;
 use crate::mending;
 use crate::openings::damage;
-use crate::outcome::{number, on_bytes, on_words, Answers};
+use crate::outcome::{number, on_bytes, on_opening, on_words, Answers, Outcome};
 use crate::random::Random;
 use crate::totals;
-use second::Params;
+use second::{Bundle, Params, Refusal, Share, HOLDERS, LINE};
 use std::ops::Range;
 
 /// A bundle as it was written, and where its parts are.
@@ -83,14 +84,30 @@ fn place_calls(random: &mut Random, answers: &mut Answers, written: &Written, by
     let place = index(random, written.jobs);
     let names =
         if wide(bytes, place..place.saturating_add(1)) { ["open_place, wide", "list_line, wide"] } else { ["open_place", "list_line"] };
-    let lengths = [length(random, written.params.d), length(random, 1)];
-    let library = on_words(lengths, |out, wrong| library::open_place(bytes, place, out, wrong));
-    let second = on_words(lengths, |out, wrong| number(second::open_place(bytes, place, out, wrong)));
+    let lengths = [length(random, written.params.d), length(random, 1), length(random, HOLDERS)];
+    let library = on_opening(lengths, |out, wrong, lowest| library::open_place(bytes, place, out, wrong, lowest));
+    let second = on_opening(lengths, |out, wrong, lowest| number(second::open_place(bytes, place, out, wrong, lowest)));
     answers.same(names[0], &(bytes, place), &library, &second)?;
-    let lengths = [random.pick(&[399, 400, 400, 500]), length(random, 1)];
+    lowest_bits(answers, "open_place", bytes, &library, |bundle| Ok(bundle.shares(place)))?;
+    let lengths = [random.pick(&[LINE - 1, LINE, LINE, LINE + 100]), length(random, 1)];
     let library = on_bytes(lengths, |line, length| library::list_line(bytes, place, line, length));
     let second = on_bytes(lengths, |line, length| number(second::list_line(bytes, place, line, length)));
     answers.same(names[1], &(bytes, place), &library, &second)
+}
+
+/// The lowest bits that the library left of shares of a bundle, if it opened them.
+fn lowest_bits(
+    answers: &mut Answers,
+    call: &'static str,
+    bytes: &[u8],
+    library: &Outcome,
+    shares: impl FnOnce(&Bundle) -> Result<Vec<Share>, Refusal>,
+) -> Result<(), String> {
+    if library.answer != 0 {
+        return Ok(());
+    }
+    let bundle = second::read_bundle(bytes).expect("a place of it was opened");
+    lowest::check(answers, call, bundle.params(), &shares(&bundle).expect("they were opened"), library)
 }
 
 fn holder_calls(random: &mut Random, answers: &mut Answers, written: &Written, bytes: &[u8]) -> Result<(), String> {
@@ -121,15 +138,16 @@ fn run(random: &mut Random, written: &Written) -> (usize, usize) {
 
 fn run_call(random: &mut Random, answers: &mut Answers, written: &Written, bytes: &[u8]) -> Result<(), String> {
     let (a, b) = run(random, written);
-    let lengths = [length(random, written.params.d), length(random, 1)];
-    let library = on_words(lengths, |out, wrong| library::open_run(bytes, a, b, out, wrong));
-    let second = on_words(lengths, |out, wrong| number(second::open_run(bytes, a, b, out, wrong)));
+    let lengths = [length(random, written.params.d), length(random, 1), length(random, HOLDERS)];
+    let library = on_opening(lengths, |out, wrong, lowest| library::open_run(bytes, a, b, out, wrong, lowest));
+    let second = on_opening(lengths, |out, wrong, lowest| number(second::open_run(bytes, a, b, out, wrong, lowest)));
     let name = match wide(bytes, a..b) {
         true if b - a == 1 => "open_run of one, wide",
         true => "open_run, wide",
         false => "open_run",
     };
-    answers.same(name, &(bytes, a, b), &library, &second)
+    answers.same(name, &(bytes, a, b), &library, &second)?;
+    lowest_bits(answers, "open_run", bytes, &library, |bundle| bundle.sums(a..b))
 }
 
 fn description_calls(random: &mut Random, answers: &mut Answers, written: &Written, bytes: &[u8]) -> Result<(), String> {

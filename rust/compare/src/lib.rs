@@ -3,6 +3,7 @@
 
 pub mod bundles;
 pub mod library;
+pub mod lowest;
 pub mod mending;
 pub mod openings;
 pub mod outcome;

@@ -13,10 +13,10 @@ pub fn deal(p: Params, job: &[u64], coefficients: &[u64], out: &mut [u64]) -> u8
 }
 
 #[rustfmt::skip]
-pub fn open(p: Params, holders: &[u64], shares: &[u64], e: u64, out: &mut [u64], wrong: &mut [u64]) -> u8 {
+pub fn open(p: Params, holders: &[u64], shares: &[u64], e: u64, out: &mut [u64], wrong: &mut [u64], lowest: &mut [u8]) -> u8 {
     unsafe {
         yikes_open(p.k, p.d, p.n, p.t, holders.as_ptr(), holders.len(), shares.as_ptr(), shares.len(), e,
-            out.as_mut_ptr(), out.len(), wrong.as_mut_ptr(), wrong.len())
+            out.as_mut_ptr(), out.len(), wrong.as_mut_ptr(), wrong.len(), lowest.as_mut_ptr(), lowest.len())
     }
 }
 
@@ -73,9 +73,10 @@ pub fn file(bundle: &[u8], index: usize, part: &mut [u64]) -> u8 {
 }
 
 #[rustfmt::skip]
-pub fn open_place(bundle: &[u8], place: usize, out: &mut [u64], wrong: &mut [u64]) -> u8 {
+pub fn open_place(bundle: &[u8], place: usize, out: &mut [u64], wrong: &mut [u64], lowest: &mut [u8]) -> u8 {
     unsafe {
-        yikes_open_place(bundle.as_ptr(), bundle.len(), place, out.as_mut_ptr(), out.len(), wrong.as_mut_ptr(), wrong.len())
+        yikes_open_place(bundle.as_ptr(), bundle.len(), place,
+            out.as_mut_ptr(), out.len(), wrong.as_mut_ptr(), wrong.len(), lowest.as_mut_ptr(), lowest.len())
     }
 }
 
@@ -88,9 +89,10 @@ pub fn add_total(bundle: &[u8], holder: usize, a: usize, b: usize, running: &mut
 }
 
 #[rustfmt::skip]
-pub fn open_run(bundle: &[u8], a: usize, b: usize, out: &mut [u64], wrong: &mut [u64]) -> u8 {
+pub fn open_run(bundle: &[u8], a: usize, b: usize, out: &mut [u64], wrong: &mut [u64], lowest: &mut [u8]) -> u8 {
     unsafe {
-        yikes_open_run(bundle.as_ptr(), bundle.len(), a, b, out.as_mut_ptr(), out.len(), wrong.as_mut_ptr(), wrong.len())
+        yikes_open_run(bundle.as_ptr(), bundle.len(), a, b,
+            out.as_mut_ptr(), out.len(), wrong.as_mut_ptr(), wrong.len(), lowest.as_mut_ptr(), lowest.len())
     }
 }
 

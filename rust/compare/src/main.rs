@@ -1,4 +1,5 @@
-//! `compare --openings N --bundles N --seed S`: the exit code is 1 at the first difference, which is printed in full.
+//! `compare --openings N --bundles N --seed S`: the exit code is 1 at the first difference, which is printed in full, and where a kind of lowest bit
+//! did not come in a long comparison.
 
 use compare::outcome::Answers;
 use compare::random::Random;
@@ -29,8 +30,11 @@ fn options() -> Result<Options, String> {
 
 type Case = fn(&mut Random, &mut Answers) -> Result<(), String>;
 
+/// So many cases come across every kind of lowest bit of the calls that open.
+const LONG: u64 = 10_000;
+
 /// Each case has a seed of its own, so that it can be run alone.
-fn run(name: &str, cases: u64, seed: u64, case: Case) -> Result<(), String> {
+fn run(name: &str, cases: u64, seed: u64, case: Case, opens: &[&'static str]) -> Result<(), String> {
     let start = Instant::now();
     let mut answers = Answers::default();
     let base = Random::new(seed).word();
@@ -39,7 +43,10 @@ fn run(name: &str, cases: u64, seed: u64, case: Case) -> Result<(), String> {
         case(&mut random, &mut answers).map_err(|text| format!("{name} {i} of seed {seed} differ: {text}"))?;
     }
     println!("{cases} {name} the same, in {:.1} s; calls by their answers:\n{answers}", start.elapsed().as_secs_f64());
-    Ok(())
+    match &answers.missing(opens)[..] {
+        missing if cases >= LONG && !missing.is_empty() => Err(format!("lowest bits that never came: {}", missing.join("; "))),
+        _ => Ok(()),
+    }
 }
 
 fn main() -> ExitCode {
@@ -51,8 +58,8 @@ fn main() -> ExitCode {
         }
     };
     println!("seed {}", options.seed);
-    let result = run("openings", options.openings, options.seed, openings::opening)
-        .and_then(|()| run("bundles", options.bundles, options.seed, bundles::bundle));
+    let result = run("openings", options.openings, options.seed, openings::opening, &["open"])
+        .and_then(|()| run("bundles", options.bundles, options.seed, bundles::bundle, &["open_place", "open_run"]));
     match result {
         Ok(()) => ExitCode::SUCCESS,
         Err(text) => {

@@ -4,7 +4,7 @@ use crate::bundles::wide;
 use crate::library;
 use crate::outcome::{number, on_bytes, Answers, POISON};
 use crate::random::Random;
-use second::Bundle;
+use second::{Bundle, HOLDERS, NOT_WRONG};
 
 /// A bundle mended by both, into an output of another length and into one of its own. What the library then left is opened and mended again.
 pub fn mend(random: &mut Random, answers: &mut Answers, bytes: &[u8]) -> Result<(), String> {
@@ -53,10 +53,10 @@ fn again(mended: &[u8]) -> Result<(), String> {
     same("mended again", &out[..], mended)
 }
 
-/// The answer, the words and the set of wrong holders that the library leaves for a place.
-fn opened(bytes: &[u8], place: usize, d: usize) -> (u8, Vec<u64>, u64) {
-    let (mut words, mut wrong) = (vec![POISON; d], [POISON]);
-    (library::open_place(bytes, place, &mut words, &mut wrong), words, wrong[0])
+/// The answer, the words, the set of wrong holders and their lowest bits that the library leaves for a place.
+fn opened(bytes: &[u8], place: usize, d: usize) -> (u8, Vec<u64>, u64, [u8; HOLDERS]) {
+    let (mut words, mut wrong, mut lowest) = (vec![POISON; d], [POISON], [POISON as u8; HOLDERS]);
+    (library::open_place(bytes, place, &mut words, &mut wrong, &mut lowest), words, wrong[0], lowest)
 }
 
 /// The lines that the program `mend` prints, from the bytes that differ and the library's openings: a job that opens has the same words when it is
@@ -64,9 +64,9 @@ fn opened(bytes: &[u8], place: usize, d: usize) -> (u8, Vec<u64>, u64) {
 fn changes(bundle: &Bundle, bytes: &[u8], mended: &[u8]) -> Result<String, String> {
     let (mut lines, mut back) = (String::new(), mended.to_vec());
     for place in 0..bundle.files[0].jobs.len() {
-        let (answer, words, wrong) = opened(bytes, place, bundle.params().d);
-        let nobody = if answer == 0 { 0 } else { wrong };
-        same("the mended job", opened(mended, place, words.len()), (answer, words, nobody))?;
+        let (answer, words, wrong, lowest) = opened(bytes, place, bundle.params().d);
+        let (nobody, nothing) = if answer == 0 { (0, [NOT_WRONG; HOLDERS]) } else { (wrong, lowest) };
+        same("the mended job", opened(mended, place, words.len()), (answer, words, nobody, nothing))?;
         let (mut named, job) = (0, bundle.files[0].jobs[place].number);
         for file in &bundle.files {
             let part = file.jobs[place].body.start + 8..file.jobs[place].body.end;

@@ -1,9 +1,10 @@
 //! Calls on lent words: dealing, opening, adding, multiplying, inverses, signed words, files.
 
 use crate::library;
-use crate::outcome::{number, on_bytes, on_words, Answers};
+use crate::lowest;
+use crate::outcome::{number, on_bytes, on_opening, on_words, Answers};
 use crate::random::{mask, Random};
-use second::Params;
+use second::{Params, Share, HOLDERS};
 
 #[derive(Clone, Debug)]
 struct Opening {
@@ -11,7 +12,7 @@ struct Opening {
     holders: Vec<u64>,
     words: Vec<u64>,
     e: u64,
-    lengths: [usize; 2],
+    lengths: [usize; 3],
 }
 
 /// One job dealt by both and opened by both, damaged or asked wrongly in one way or another; then smaller calls.
@@ -33,10 +34,15 @@ pub fn opening(random: &mut Random, answers: &mut Answers) -> Result<(), String>
 
 fn compare_opening(case: &Opening, answers: &mut Answers) -> Result<(), String> {
     let Opening { params, holders, words, e, lengths } = case;
-    let library = on_words(*lengths, |out, wrong| library::open(*params, holders, words, *e, out, wrong));
-    let second = on_words(*lengths, |out, wrong| number(second::open(*params, holders, words, *e, out, wrong)));
+    let library = on_opening(*lengths, |out, wrong, lowest| library::open(*params, holders, words, *e, out, wrong, lowest));
+    let second = on_opening(*lengths, |out, wrong, lowest| number(second::open(*params, holders, words, *e, out, wrong, lowest)));
     let wide = params.check().is_ok() && !params.ring().in_width(words);
-    answers.same(if wide { "open, wide" } else { "open" }, case, &library, &second)
+    answers.same(if wide { "open, wide" } else { "open" }, case, &library, &second)?;
+    if library.answer != 0 {
+        return Ok(());
+    }
+    let shares: Vec<Share> = holders.iter().zip(words.chunks(params.d)).map(|(h, ws)| second::share(*h as usize, ws)).collect();
+    lowest::check(answers, "open", *params, &shares, &library)
 }
 
 /// The shares of a random polynomial, from both.
@@ -96,7 +102,7 @@ fn lend(random: &mut Random, p: Params, dealt: &[u64]) -> Opening {
             words[i * p.d..].iter_mut().zip(bits).for_each(|(word, bits)| *word |= bits);
         }
     }
-    Opening { params: p, holders: present.iter().map(|i| *i as u64).collect(), words, e, lengths: [p.d, 1] }
+    Opening { params: p, holders: present.iter().map(|i| *i as u64).collect(), words, e, lengths: [p.d, 1, HOLDERS] }
 }
 
 /// Damages some of the present shares: in any bits, in one bit, in the high bits only, or by moving them to another polynomial, which may
@@ -130,11 +136,12 @@ pub fn damage(random: &mut Random, p: Params, dealt: &[u64], present: &[usize], 
 fn spoil(random: &mut Random, case: &mut Opening) {
     let p = case.params;
     for _ in 0..random.from_to(1, 2) {
-        match random.below(5) {
+        match random.below(6) {
             0 => case.params = random.bad_params(),
             1 => spoil_holders(random, p, &mut case.holders),
             2 => case.lengths[0] = random.wrong_length(p.d),
             3 => case.lengths[1] = random.wrong_length(1),
+            4 => case.lengths[2] = random.wrong_length(HOLDERS),
             _ => {
                 let length = random.wrong_length(case.words.len());
                 case.words.resize(length, 0);

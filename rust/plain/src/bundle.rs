@@ -2,7 +2,7 @@
 
 use crate::decode::{decode, Shares};
 use crate::ring::{add, eval, mask, sub, Element};
-use crate::{demand, enough, in_width, open_shares, Params, Refusal};
+use crate::{demand, enough, in_width, open_shares, opening_lengths, Params, Refusal};
 use std::array::from_fn;
 use std::ops::Range;
 use std::slice::ChunksExact;
@@ -200,18 +200,30 @@ impl<'a> Bundle<'a> {
         Ok(file)
     }
 
-    fn open_place<const D: usize, const N: usize>(&self, place: usize, out: &mut [u64], wrong: &mut [u64]) -> Result<(), Refusal> {
+    fn open_place<const D: usize, const N: usize>(
+        &self,
+        place: usize,
+        out: &mut [u64],
+        wrong: &mut [u64],
+        lowest: &mut [u8],
+    ) -> Result<(), Refusal> {
         let mut shares = Shares::<D, N>::new();
         let narrow = self.load(place, &mut shares);
-        open_shares(self.heading.params, shares, narrow, self.allowance(), out, wrong)
+        open_shares(self.heading.params, shares, narrow, self.allowance(), out, wrong, lowest)
     }
 
-    fn open_run<const D: usize, const N: usize>(&self, run: Range<usize>, out: &mut [u64], wrong: &mut [u64]) -> Result<(), Refusal> {
+    fn open_run<const D: usize, const N: usize>(
+        &self,
+        run: Range<usize>,
+        out: &mut [u64],
+        wrong: &mut [u64],
+        lowest: &mut [u8],
+    ) -> Result<(), Refusal> {
         let mut shares = Shares::<D, N>::new();
         for file in 0..self.files {
             shares.push(self.holder(file), self.total(file, run.clone())?);
         }
-        open_shares(self.heading.params, shares, true, self.allowance(), out, wrong)
+        open_shares(self.heading.params, shares, true, self.allowance(), out, wrong, lowest)
     }
 
     /// Puts the values at the wrong holders' points over their words, in a copy of the bundle, which has enough files. A job without a codeword stays.
@@ -228,28 +240,24 @@ impl<'a> Bundle<'a> {
             }
         }
     }
-
-    fn lengths(&self, out: &[u64], wrong: &[u64]) -> Result<(), Refusal> {
-        demand(out.len() == self.heading.params.d && wrong.len() == 1, Refusal::Length)
-    }
 }
 
 pub fn accept(bytes: &[u8]) -> Result<(), Refusal> {
     Bundle::read(bytes).map(|_| ())
 }
 
-pub fn open_place(bytes: &[u8], place: usize, out: &mut [u64], wrong: &mut [u64]) -> Result<(), Refusal> {
+pub fn open_place(bytes: &[u8], place: usize, out: &mut [u64], wrong: &mut [u64], lowest: &mut [u8]) -> Result<(), Refusal> {
     let bundle = Bundle::read(bytes)?;
-    bundle.lengths(out, wrong)?;
+    opening_lengths(bundle.heading.params, out, wrong, lowest)?;
     demand(place < bundle.heading.jobs, Refusal::OutOfRange)?;
-    for_d!(bundle.heading.params.d, bundle.open_place::<D, { 1 << D }>(place, out, wrong))
+    for_d!(bundle.heading.params.d, bundle.open_place::<D, { 1 << D }>(place, out, wrong, lowest))
 }
 
-pub fn open_run(bytes: &[u8], a: usize, b: usize, out: &mut [u64], wrong: &mut [u64]) -> Result<(), Refusal> {
+pub fn open_run(bytes: &[u8], a: usize, b: usize, out: &mut [u64], wrong: &mut [u64], lowest: &mut [u8]) -> Result<(), Refusal> {
     let bundle = Bundle::read(bytes)?;
-    bundle.lengths(out, wrong)?;
+    opening_lengths(bundle.heading.params, out, wrong, lowest)?;
     demand(a <= b && b <= bundle.heading.jobs, Refusal::OutOfRange)?;
-    for_d!(bundle.heading.params.d, bundle.open_run::<D, { 1 << D }>(a..b, out, wrong))
+    for_d!(bundle.heading.params.d, bundle.open_run::<D, { 1 << D }>(a..b, out, wrong, lowest))
 }
 
 pub fn total(bytes: &[u8], holder: usize, a: usize, b: usize, out: &mut [u64]) -> Result<(), Refusal> {

@@ -6,7 +6,7 @@ use crate::field::{differing, Slice};
 use crate::in_width;
 use crate::ring::{add, eval, integer, inverse, mask, mul, mul_by_point, sub, Element};
 
-/// The shares still in: there are fewer than N = 2^D.
+/// The shares still in, and after them those that were dropped: there are fewer than N = 2^D.
 pub struct Shares<const D: usize, const N: usize> {
     count: usize,
     holders: [u64; N],
@@ -32,6 +32,11 @@ impl<const D: usize, const N: usize> Shares<D, N> {
         self.holders.iter().copied().zip(self.words.iter().copied()).take(self.count)
     }
 
+    /// The shares that were dropped of so many.
+    pub fn dropped(&self, m: usize) -> impl Iterator<Item = (u64, Element<D>)> + '_ {
+        self.holders[self.count..m].iter().copied().zip(self.words[self.count..m].iter().copied())
+    }
+
     /// Drops the shares of these lanes, and gives the set of their holders.
     fn drop_lanes(&mut self, lanes: u64) -> u64 {
         let (mut set, mut kept) = (0, 0);
@@ -39,8 +44,10 @@ impl<const D: usize, const N: usize> Shares<D, N> {
             if lanes >> i & 1 == 1 {
                 set |= 1 << (self.holders[i] - 1);
             } else {
-                self.holders[kept] = self.holders[i];
-                self.words[kept] = self.words[i];
+                if kept < i {
+                    self.holders.swap(kept, i);
+                    self.words.swap(kept, i);
+                }
                 kept += 1;
             }
         }
@@ -115,8 +122,8 @@ fn slice<const D: usize>(rows: &[Element<D>], v: u32) -> Slice<D> {
     slice
 }
 
-/// The set of wrong holders; the coefficients of the codeword, not cut to k bits, are the first t + 1 rows of `q`. There are at least t + 1 + 2 e
-/// shares, and `narrow` tells that no word of them is wide, which saves looking.
+/// The set of wrong holders, whose shares are dropped; the coefficients of the codeword, not cut to k bits, are the first t + 1 rows of `q`.
+/// There are at least t + 1 + 2 e shares, and `narrow` tells that no word of them is wide, which saves looking.
 pub fn decode<const D: usize, const N: usize>(
     k: u64,
     t: usize,

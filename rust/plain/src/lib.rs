@@ -1,6 +1,6 @@
 //! The library's job with the library's own algorithm in plain Rust, for the benchmark: k and d are known at run time only, and each call
-//! has code for each d, among which it chooses once; no unsafe code, no vector instructions by hand. Parameters and refusals are those of
-//! `second`, and nothing else of it is used.
+//! has code for each d, among which it chooses once; no unsafe code, no vector instructions by hand. Parameters, refusals and the
+//! constants of an opening are those of `second`, and nothing else of it is used.
 
 /// The expression for this d, from 2 to 6, with the constant D in it, so that there is code for each.
 macro_rules! for_d {
@@ -25,7 +25,7 @@ mod field;
 mod ring;
 
 pub use bundle::{accept, add_total, mend, open_place, open_run, total};
-pub use second::{Params, Refusal};
+pub use second::{Params, Refusal, HOLDERS, NOT_WRONG};
 
 use decode::{decode, Shares};
 use ring::{add, eval, mask, mul_by_point};
@@ -59,16 +59,31 @@ fn write_shares<const D: usize>(k: u64, job: &[u64], coefficients: &[u64], out: 
     }
 }
 
-/// Opens lent shares: the job's words, and the set of wrong holders, those of shares with a wide word among them.
-pub fn open(p: Params, holders: &[u64], words: &[u64], e: u64, out: &mut [u64], wrong: &mut [u64]) -> Result<(), Refusal> {
+/// Opens lent shares: the job's words, the set of wrong holders, those of shares with a wide word among them, and the lowest bit at which each of
+/// these shares differs.
+pub fn open(
+    p: Params,
+    holders: &[u64],
+    words: &[u64],
+    e: u64,
+    out: &mut [u64],
+    wrong: &mut [u64],
+    lowest: &mut [u8],
+) -> Result<(), Refusal> {
     p.check()?;
-    demand(holders.len().checked_mul(p.d) == Some(words.len()) && out.len() == p.d && wrong.len() == 1, Refusal::Length)?;
+    demand(holders.len().checked_mul(p.d) == Some(words.len()), Refusal::Length)?;
+    opening_lengths(p, out, wrong, lowest)?;
     let mut last = 0;
     for &h in holders {
         demand(last < h && h <= p.n as u64, Refusal::Holder)?;
         last = h;
     }
-    for_d!(p.d, open_lent::<D, { 1 << D }>(p, holders, words, e, out, wrong))
+    for_d!(p.d, open_lent::<D, { 1 << D }>(p, holders, words, e, out, wrong, lowest))
+}
+
+/// The lengths of what an opening fills.
+pub(crate) fn opening_lengths(p: Params, out: &[u64], wrong: &[u64], lowest: &[u8]) -> Result<(), Refusal> {
+    demand(out.len() == p.d && wrong.len() == 1 && lowest.len() == HOLDERS, Refusal::Length)
 }
 
 fn open_lent<const D: usize, const N: usize>(
@@ -78,12 +93,13 @@ fn open_lent<const D: usize, const N: usize>(
     e: u64,
     out: &mut [u64],
     wrong: &mut [u64],
+    lowest: &mut [u8],
 ) -> Result<(), Refusal> {
     let mut shares = Shares::<D, N>::new();
     for (&h, words) in holders.iter().zip(words.as_chunks::<D>().0) {
         shares.push(h, *words);
     }
-    open_shares(p, shares, in_width(p.k, words), e, out, wrong)
+    open_shares(p, shares, in_width(p.k, words), e, out, wrong, lowest)
 }
 
 /// Whether m shares are at least t + 1 + 2 e.
@@ -99,10 +115,18 @@ pub(crate) fn open_shares<const D: usize, const N: usize>(
     e: u64,
     out: &mut [u64],
     wrong: &mut [u64],
+    lowest: &mut [u8],
 ) -> Result<(), Refusal> {
-    enough(p, shares.len(), e)?;
+    let m = shares.len();
+    enough(p, m, e)?;
     let mut q = [[0; D]; N];
     wrong[0] = decode(p.k, p.t, &mut shares, narrow, e as u32, &mut q).ok_or(Refusal::NoCodeword)?;
     out.copy_from_slice(&q[0].map(|w| w & mask(p.k)));
+    lowest.fill(NOT_WRONG);
+    for (holder, words) in shares.dropped(m) {
+        let value = eval(&q[..=p.t], holder);
+        let gap = words.iter().zip(value).fold(0, |gap, (w, v)| gap | (w ^ (v & mask(p.k))));
+        lowest[holder as usize - 1] = gap.trailing_zeros() as u8;
+    }
     Ok(())
 }

@@ -68,10 +68,10 @@ fn openings() {
             shares[at] |= random.high_bit(p.k);
         }
         let holders: Vec<u64> = (1..=p.n as u64).collect();
-        let (mut words, mut wrong) = ([vec![7; p.d], vec![7; p.d]], [[7], [7]]);
-        let first = plain::open(p, &holders, &shares, e as u64, &mut words[0], &mut wrong[0]);
-        let other = second::open(p, &holders, &shares, e as u64, &mut words[1], &mut wrong[1]);
-        assert_eq!((first, &words[0], wrong[0]), (other, &words[1], wrong[1]), "{p:?} {shares:?}");
+        let (mut words, mut wrong, mut lowest) = ([vec![7; p.d], vec![7; p.d]], [[7], [7]], [[7; 64], [7; 64]]);
+        let first = plain::open(p, &holders, &shares, e as u64, &mut words[0], &mut wrong[0], &mut lowest[0]);
+        let other = second::open(p, &holders, &shares, e as u64, &mut words[1], &mut wrong[1], &mut lowest[1]);
+        assert_eq!((first, &words[0], wrong[0], lowest[0]), (other, &words[1], wrong[1], lowest[1]), "{p:?} {shares:?}");
     }
 }
 
@@ -113,26 +113,28 @@ fn bundles() {
         assert_eq!(plain::accept(&bytes), second::accept(&bytes), "{bytes:?}");
         let (place, b, holder) = (random.below(4), random.below(4), random.below(p.n + 1));
         let mut results = [vec![7; 3 * p.d + 2], vec![7; 3 * p.d + 2]];
+        let mut bits = [[[7; 64]; 2]; 2];
         let answers = [0, 1].map(|side| {
             let (out, wrong) = results[side].split_at_mut(3 * p.d);
             let (place_words, rest) = out.split_at_mut(p.d);
             let (run_words, total_words) = rest.split_at_mut(p.d);
             let (place_wrong, run_wrong) = wrong.split_at_mut(1);
+            let [place_lowest, run_lowest] = &mut bits[side];
             if side == 0 {
                 (
-                    plain::open_place(&bytes, place, place_words, place_wrong),
-                    plain::open_run(&bytes, place, b, run_words, run_wrong),
+                    plain::open_place(&bytes, place, place_words, place_wrong, place_lowest),
+                    plain::open_run(&bytes, place, b, run_words, run_wrong, run_lowest),
                     plain::total(&bytes, holder, place, b, total_words),
                 )
             } else {
                 (
-                    second::open_place(&bytes, place, place_words, place_wrong),
-                    second::open_run(&bytes, place, b, run_words, run_wrong),
+                    second::open_place(&bytes, place, place_words, place_wrong, place_lowest),
+                    second::open_run(&bytes, place, b, run_words, run_wrong, run_lowest),
                     second::total(&bytes, holder, place, b, total_words),
                 )
             }
         });
-        assert_eq!((answers[0], &results[0]), (answers[1], &results[1]), "{bytes:?}");
+        assert_eq!((answers[0], &results[0], bits[0]), (answers[1], &results[1], bits[1]), "{bytes:?}");
     }
 }
 

@@ -3,7 +3,7 @@
 use crate::decode::Opened;
 use crate::files::{read_bundle, Bundle, File};
 use crate::ring::{Element, ZERO};
-use crate::sharing::{open_shares, share, Share};
+use crate::sharing::{open_shares, opening_lengths, share, Share};
 use crate::{demand, Params, Refusal};
 use std::ops::Range;
 
@@ -20,12 +20,12 @@ impl Bundle {
         demand(a <= b && b <= self.files[0].jobs.len(), Refusal::OutOfRange)
     }
 
-    fn file(&self, holder: usize) -> Result<&File, Refusal> {
+    pub(crate) fn file(&self, holder: usize) -> Result<&File, Refusal> {
         self.files.iter().find(|f| f.heading.holder == holder).ok_or(Refusal::Holder)
     }
 
     /// The shares of the job at a place that the bundle has.
-    pub(crate) fn shares(&self, place: usize) -> Vec<Share> {
+    pub fn shares(&self, place: usize) -> Vec<Share> {
         self.files.iter().map(|f| share(f.heading.holder, &f.jobs[place].words)).collect()
     }
 
@@ -41,6 +41,11 @@ impl Bundle {
         Ok(file.jobs[run].iter().fold(ZERO, |sum, job| ring.add(&sum, &ring.element(&job.words))))
     }
 
+    /// The sums of the files' shares over a run that the bundle has.
+    pub fn sums(&self, run: Range<usize>) -> Result<Vec<Share>, Refusal> {
+        self.files.iter().map(|f| Ok(Share { holder: f.heading.holder, words: self.sum(f, run.clone())? })).collect()
+    }
+
     /// The sum of a holder's file over a run, for an output of some length.
     fn total(&self, holder: usize, a: usize, b: usize, length: usize) -> Result<Element, Refusal> {
         let file = self.file(holder)?;
@@ -48,15 +53,6 @@ impl Bundle {
         self.run(a, b)?;
         self.sum(file, a..b)
     }
-
-    fn lengths(&self, out: &[u64], wrong: &[u64]) -> Result<(), Refusal> {
-        demand(out.len() == self.params().d && wrong.len() == 1, Refusal::Length)
-    }
-}
-
-fn put(opened: &Opened, out: &mut [u64], wrong: &mut [u64]) {
-    out.copy_from_slice(&opened.words[..out.len()]);
-    wrong[0] = opened.wrong;
 }
 
 /// The allowance, the book, the archive number, the jobs, the files and the bytes of a file.
@@ -87,11 +83,11 @@ pub fn file(bytes: &[u8], index: usize, part: &mut [u64]) -> Result<(), Refusal>
     Ok(())
 }
 
-pub fn open_place(bytes: &[u8], place: usize, out: &mut [u64], wrong: &mut [u64]) -> Result<(), Refusal> {
+pub fn open_place(bytes: &[u8], place: usize, out: &mut [u64], wrong: &mut [u64], lowest: &mut [u8]) -> Result<(), Refusal> {
     let bundle = read_bundle(bytes)?;
-    bundle.lengths(out, wrong)?;
+    opening_lengths(bundle.params(), out, wrong, lowest)?;
     bundle.place(place)?;
-    put(&bundle.open(place)?, out, wrong);
+    bundle.open(place)?.put(out, wrong, lowest);
     Ok(())
 }
 
@@ -110,13 +106,11 @@ pub fn add_total(bytes: &[u8], holder: usize, a: usize, b: usize, running: &mut 
     Ok(())
 }
 
-pub fn open_run(bytes: &[u8], a: usize, b: usize, out: &mut [u64], wrong: &mut [u64]) -> Result<(), Refusal> {
+pub fn open_run(bytes: &[u8], a: usize, b: usize, out: &mut [u64], wrong: &mut [u64], lowest: &mut [u8]) -> Result<(), Refusal> {
     let bundle = read_bundle(bytes)?;
-    bundle.lengths(out, wrong)?;
+    opening_lengths(bundle.params(), out, wrong, lowest)?;
     bundle.run(a, b)?;
-    let sums: Result<Vec<Share>, Refusal> =
-        bundle.files.iter().map(|f| Ok(Share { holder: f.heading.holder, words: bundle.sum(f, a..b)? })).collect();
-    put(&open_shares(bundle.params(), bundle.e.into(), &sums?)?, out, wrong);
+    open_shares(bundle.params(), bundle.e.into(), &bundle.sums(a..b)?)?.put(out, wrong, lowest);
     Ok(())
 }
 

@@ -5,11 +5,18 @@ use crate::field::Field;
 use crate::ring::{Element, Ring, ZERO};
 use crate::sharing::Share;
 
-/// The free term, and the holders whose shares differ.
+/// The entries for holders, more than any book has.
+pub const HOLDERS: usize = 64;
+
+/// The entry of a holder whose share does not differ, or who has none.
+pub const NOT_WRONG: u8 = 255;
+
+/// The free term, the holders whose shares differ, and for each of these the lowest bit that does.
 #[derive(Clone, Copy, Debug, PartialEq, Eq)]
 pub struct Opened {
     pub words: Element,
     pub wrong: u64,
+    pub lowest: [u8; HOLDERS],
 }
 
 /// At least t + 1 + 2 e shares of different holders, with any words. Those of a share are compared with a value's as they stand, so that
@@ -34,10 +41,27 @@ fn few_subsets(m: usize, size: usize) -> bool {
     true
 }
 
+/// Paper 02, K4: the lowest bit at which any word of a share differs from the value's, if one does. Words are compared at all 64 bits.
+fn lowest_difference(words: &Element, value: &Element) -> Option<u8> {
+    let bit = |w: u64, place: u8| w >> place & 1;
+    (0..64).find(|place| words.iter().zip(value).any(|(a, b)| bit(*a, *place) != bit(*b, *place)))
+}
+
 /// What a polynomial opens to, if it differs from e shares or fewer.
 fn within(ring: &Ring, p: &[Element], e: usize, shares: &[Share]) -> Option<Opened> {
-    let wrong = shares.iter().filter(|s| ring.value(p, &ring.point(s.holder)) != s.words).fold(0, |set, s| set | s.bit());
-    (wrong.count_ones() as usize <= e).then_some(Opened { words: p[0], wrong })
+    let mut opened = Opened { words: p[0], wrong: 0, lowest: [NOT_WRONG; HOLDERS] };
+    for s in shares {
+        let value = ring.value(p, &ring.point(s.holder));
+        if s.words == value {
+            continue;
+        }
+        opened.wrong |= s.bit();
+        if opened.wrong.count_ones() as usize > e {
+            return None;
+        }
+        opened.lowest[s.holder - 1] = lowest_difference(&s.words, &value).expect("words that are not equal differ at a bit");
+    }
+    Some(opened)
 }
 
 /// A polynomial that differs from e of t + 1 + 2 e shares goes through t + 1 of them, so it is met.

@@ -4,22 +4,27 @@ use crate::*;
 
 const SMALL: Params = Params { k: 3, d: 2, n: 3, t: 1 };
 
-type Answer = (Result<(), Refusal>, Vec<u64>, u64);
+/// The words, the set, and the bits of the wrong holders, rising.
+type Answer = (Result<(), Refusal>, Vec<u64>, u64, Vec<u8>);
 
 fn opening(p: Params, e: u64, shares: &[(u64, [u64; 2])]) -> Answer {
     let holders: Vec<u64> = shares.iter().map(|s| s.0).collect();
     let words: Vec<u64> = shares.iter().flat_map(|s| s.1).collect();
-    let (mut out, mut wrong) = (vec![77; 2], [88]);
-    let answer = open(p, &holders, &words, e, &mut out, &mut wrong);
-    (answer, out, wrong[0])
+    let (mut out, mut wrong, mut lowest) = (vec![77; 2], [88], [99; HOLDERS]);
+    let answer = open(p, &holders, &words, e, &mut out, &mut wrong, &mut lowest);
+    let (named, others): (Vec<usize>, Vec<usize>) = (0..HOLDERS).partition(|i| wrong[0] >> i & 1 == 1);
+    let rest = if answer.is_ok() { NOT_WRONG } else { 99 };
+    assert!(others.iter().all(|i| lowest[*i] == rest));
+    (answer, out, wrong[0], named.iter().map(|i| lowest[*i]).collect())
 }
 
-fn opens(words: [u64; 2], wrong: u64) -> Answer {
-    (Ok(()), words.to_vec(), wrong)
+fn opens(words: [u64; 2], wrong: u64, bits: &[u8]) -> Answer {
+    (Ok(()), words.to_vec(), wrong, bits.to_vec())
 }
 
+/// 88 is the set of three holders.
 fn refused(refusal: Refusal) -> Answer {
-    (Err(refusal), vec![77; 2], 88)
+    (Err(refusal), vec![77; 2], 88, vec![99; 3])
 }
 
 fn product(p: Params, a: &[u64], b: &[u64]) -> Vec<u64> {
@@ -55,13 +60,13 @@ fn dealing_m4() {
 #[test]
 fn opening_m5_to_m10() {
     let dealt = [(1, [0, 3]), (2, [4, 4]), (3, [7, 5])];
-    assert_eq!(opening(SMALL, 0, &dealt), opens([5, 2], 0));
+    assert_eq!(opening(SMALL, 0, &dealt), opens([5, 2], 0, &[]));
     assert_eq!(opening(SMALL, 0, &[dealt[0], dealt[1], (3, [3, 5])]), refused(Refusal::NoCodeword));
-    assert_eq!(opening(SMALL, 0, &[(1, [0, 3]), (3, [3, 5])]), opens([1, 6], 0));
+    assert_eq!(opening(SMALL, 0, &[(1, [0, 3]), (3, [3, 5])]), opens([1, 6], 0, &[]));
     assert_eq!(opening(SMALL, 1, &dealt), refused(Refusal::TooFewShares));
     let constant = Params { t: 0, ..SMALL };
-    assert_eq!(opening(constant, 1, &[(1, [5, 2]), (2, [5, 2]), (3, [1, 2])]), opens([5, 2], 4));
-    assert_eq!(opening(constant, 1, &[(1, [1, 2]), (2, [5, 2]), (3, [5, 2])]), opens([5, 2], 1));
+    assert_eq!(opening(constant, 1, &[(1, [5, 2]), (2, [5, 2]), (3, [1, 2])]), opens([5, 2], 4, &[2]));
+    assert_eq!(opening(constant, 1, &[(1, [1, 2]), (2, [5, 2]), (3, [5, 2])]), opens([5, 2], 1, &[2]));
     assert_eq!(opening(constant, 1, &[(1, [5, 2]), (2, [1, 2]), (3, [7, 2])]), refused(Refusal::NoCodeword));
     assert_eq!(opening(constant, 0, &[]), refused(Refusal::TooFewShares));
 }
@@ -70,12 +75,49 @@ fn opening_m5_to_m10() {
 #[test]
 fn wide_shares_k1() {
     let (constant, right, wide) = (Params { t: 0, ..SMALL }, [5, 2], [5 + 8, 2]);
-    assert_eq!(opening(constant, 1, &[(1, right), (2, right), (3, wide)]), opens(right, 4));
-    assert_eq!(opening(constant, 1, &[(1, [8, u64::MAX]), (2, right), (3, right)]), opens(right, 1));
+    assert_eq!(opening(constant, 1, &[(1, right), (2, right), (3, wide)]), opens(right, 4, &[3]));
+    assert_eq!(opening(constant, 1, &[(1, [8, u64::MAX]), (2, right), (3, right)]), opens(right, 1, &[0]));
     assert_eq!(opening(constant, 0, &[(1, right), (2, right), (3, wide)]), refused(Refusal::NoCodeword));
     assert_eq!(opening(constant, 1, &[(1, wide), (2, right), (3, wide)]), refused(Refusal::NoCodeword));
     assert_eq!(opening(constant, 1, &[(1, wide), (2, right), (3, [1, 2])]), refused(Refusal::NoCodeword));
     assert_eq!(opening(constant, 1, &[(1, right), (2, wide)]), refused(Refusal::TooFewShares));
+}
+
+/// Paper 02, K4: the lowest bit over both words, and a wide word at its full 64 bits; what is declined keeps its entries.
+#[test]
+fn lowest_bits_k4() {
+    let (p, right) = (Params { k: 6, d: 2, n: 3, t: 0 }, [5, 2]);
+    let top = 1 << 63;
+    for (share, bit) in [
+        ([5 ^ 32, 2 ^ 8], 3),
+        ([5 ^ 8, 2 ^ 32], 3),
+        ([4, 2], 0),
+        ([5, 2 ^ 32], 5),
+        ([5 ^ 40, 2], 3),
+        ([5 + 64, 2], 6),
+        ([5, 2 + top], 63),
+        ([5 + top, 2 + 64], 6),
+        ([5 + 64, 2 ^ 16], 4),
+        ([5 ^ 16, 2 + top], 4),
+        ([!5, !2], 0),
+    ] {
+        for (holder, set) in [(1, 1), (2, 2), (3, 4)] {
+            let shares = [1, 2, 3].map(|i| (i, if i == holder { share } else { right }));
+            assert_eq!(opening(p, 1, &shares), opens(right, set, &[bit]));
+        }
+    }
+    let wide_book = Params { k: 64, ..p };
+    assert_eq!(opening(wide_book, 1, &[(1, right), (2, [5, 2 + top]), (3, right)]), opens(right, 2, &[63]));
+    let mut lowest = [99; 65];
+    for length in [0, 63, 65] {
+        let answer = open(p, &[0], &[5, 2], u64::MAX, &mut [77; 2], &mut [88], &mut lowest[..length]);
+        assert_eq!(answer, Err(Refusal::Length));
+    }
+    let bundle = example_bundle();
+    assert_eq!(open_place(&bundle, 9, &mut [77; 2], &mut [88], &mut lowest[..63]), Err(Refusal::Length));
+    assert_eq!(open_run(&bundle, 9, 8, &mut [77; 2], &mut [88], &mut lowest), Err(Refusal::Length));
+    assert_eq!(open_place(&bundle, 1, &mut [77; 2], &mut [88], &mut lowest[..64]), Err(Refusal::NoCodeword));
+    assert_eq!(lowest, [99; 65]);
 }
 
 #[test]
@@ -105,21 +147,25 @@ fn the_example_of_the_listing() {
         list_line(&bundle, place, &mut line, &mut length).unwrap();
         text.extend(&line[..length[0] as usize]);
     }
-    assert_eq!(String::from_utf8(text).unwrap(), "10 open 3 -3,2\n11 6 - -\n");
+    assert_eq!(String::from_utf8(text).unwrap(), "10 open 3/2 -3,2\n11 6 - -\n");
     assert_eq!(list_line(&bundle, 2, &mut [0; LINE], &mut [0]), Err(Refusal::OutOfRange));
 }
 
 /// The example with job 10 of holder 3 wide: its place opens, a run of that place does not.
 #[test]
 fn a_wide_word_in_a_place_and_in_a_run() {
-    let (mut bundle, mut out, mut wrong) = (example_bundle(), [77; 2], [88]);
-    bundle[173 + 23 + 14 + 7] = 1;
-    open_place(&bundle, 0, &mut out, &mut wrong).unwrap();
-    assert_eq!((out, wrong), ([5, 2], [4]));
+    let (mut bundle, mut out, mut wrong, mut lowest) = (example_bundle(), [77; 2], [88], [99; HOLDERS]);
+    open_run(&bundle, 0, 1, &mut out, &mut wrong, &mut lowest).unwrap();
+    assert_eq!((out, wrong, &lowest[..4]), ([5, 2], [4], &[255, 255, 2, 255][..]));
+    (bundle[173 + 23 + 14], bundle[173 + 23 + 14 + 7]) = (5, 1);
+    open_place(&bundle, 0, &mut out, &mut wrong, &mut lowest).unwrap();
+    assert_eq!((out, wrong, &lowest[..4]), ([5, 2], [4], &[255, 255, 56, 255][..]));
     for run in [(0, 1), (0, 2)] {
-        assert_eq!(open_run(&bundle, run.0, run.1, &mut out, &mut wrong), Err(Refusal::WideWord));
+        assert_eq!(open_run(&bundle, run.0, run.1, &mut out, &mut wrong, &mut lowest), Err(Refusal::WideWord));
     }
-    assert_eq!(open_run(&bundle, 1, 1, &mut out, &mut wrong), Ok(()));
+    assert_eq!(lowest[2], 56);
+    assert_eq!(open_run(&bundle, 1, 1, &mut out, &mut wrong, &mut lowest), Ok(()));
+    assert_eq!(lowest, [NOT_WRONG; HOLDERS]);
     assert_eq!(total(&bundle, 3, 0, 1, &mut out), Err(Refusal::WideWord));
     assert_eq!(total(&bundle, 2, 0, 1, &mut out), Ok(()));
 }
@@ -135,9 +181,9 @@ fn the_example_mended_k2() {
         assert_eq!(out, right);
     }
     assert_eq!([report(&bundle), report(&right)], ["10 holder 3\n11 refused 6\n", "11 refused 6\n"]);
-    let (mut words, mut wrong) = ([77; 2], [88]);
-    open_place(&right, 0, &mut words, &mut wrong).unwrap();
-    assert_eq!((words, wrong), ([5, 2], [0]));
+    let (mut words, mut wrong, mut lowest) = ([77; 2], [88], [99; HOLDERS]);
+    open_place(&right, 0, &mut words, &mut wrong, &mut lowest).unwrap();
+    assert_eq!((words, wrong, lowest), ([5, 2], [0], [NOT_WRONG; HOLDERS]));
     // holder 1's file three times: lines come by job and then by holder, and a wide share is replaced whole
     let mut same = [&bundle[..90], &bundle[7..90], &bundle[7..90]].concat();
     (same[90 + 10], same[173 + 10]) = (2, 3);

@@ -1,7 +1,8 @@
-//! A second implementation of paper 01 and of K1 to K3 of paper 02, written from the papers alone and by other methods than the library's:
-//! opening tries every set of t + 1 shares where there are few, and otherwise rises through the bits with Gao's decoder; mending
-//! interpolates anew through right shares; a total is made whole before it is added to a lent element; the inverse is the solution of a
-//! linear system; bundles are parsed into values first. It is made to be compared with the library, so it prefers plain to fast.
+//! A second implementation of paper 01 and of K1 to K4 of paper 02, written from the papers alone and by other methods than the library's:
+//! opening tries every set of t + 1 shares where there are few, and otherwise rises through the bits with Gao's decoder; a share and a value
+//! are compared bit by bit; mending interpolates anew through right shares; a total is made whole before it is added to a lent element; the
+//! inverse is the solution of a linear system; bundles are parsed into values first. It is made to be compared with the library, so it
+//! prefers plain to fast.
 //!
 //! Every call writes its outputs only when it succeeds.
 
@@ -15,12 +16,12 @@ mod ring;
 mod sharing;
 
 pub use bundle::{add_total, describe, fetch_body, fetch_fault, file, job_number, open_place, open_run, total};
-pub use decode::{by_levels, by_subsets, Opened};
+pub use decode::{by_levels, by_subsets, Opened, HOLDERS, NOT_WRONG};
 pub use files::{accept, check_file, read, read_bundle, write_bundle, write_file, write_order, Bundle, File, Heading, Job};
 pub use listing::{list_line, signed, LINE};
 pub use mending::{mend, report};
 pub use ring::{Element, Ring};
-pub use sharing::{add, deal, invert, open, scale, share, Share};
+pub use sharing::{add, corrections, deal, invert, open, scale, share, Share};
 
 /// The numbers of paper 01's section 'When a call declines'.
 #[derive(Clone, Copy, Debug, PartialEq, Eq)]

@@ -4,7 +4,7 @@ use crate::files::read_bundle;
 use crate::{demand, Refusal};
 
 /// The bytes that a buffer for one line must have at least.
-pub const LINE: usize = 400;
+pub const LINE: usize = 1024;
 
 /// A word of k bits below 2^(k - 1) means itself; another one means itself less 2^k.
 fn read_signed(k: u64, w: u64) -> i128 {
@@ -42,7 +42,7 @@ pub fn list_line(bytes: &[u8], place: usize, line: &mut [u8], length: &mut [u64]
     let p = bundle.params();
     let text = match bundle.open(place) {
         Ok(opened) => {
-            let wrong = join((1..=p.n).filter(|i| opened.wrong >> (i - 1) & 1 == 1));
+            let wrong = join((1..=p.n).filter(|i| opened.wrong >> (i - 1) & 1 == 1).map(|i| format!("{i}/{}", opened.lowest[i - 1])));
             let words = join(opened.words[..p.d].iter().map(|w| read_signed(p.k, *w)));
             format!("{} open {wrong} {words}\n", job.number)
         }

@@ -1,9 +1,8 @@
 //! Paper 02, K2: a bundle with every wrong share replaced by its polynomial's value, and what the program `mend` prints.
 
-use crate::decode::lagrange;
 use crate::files::{read_bundle, Bundle, File};
 use crate::ring::Element;
-use crate::sharing::Share;
+use crate::sharing::corrections;
 use crate::{demand, Refusal};
 
 /// The most bytes that a program reads.
@@ -14,15 +13,10 @@ impl Bundle {
         0..self.files[0].jobs.len()
     }
 
-    /// The files whose shares of the job at a place are wrong, each with the value that belongs there. At least t + 1 shares are right, and
-    /// there is one polynomial through them, so that any t + 1 of them tell it: here the last ones.
+    /// The files whose shares of the job at a place are wrong, each with the value that belongs there.
     fn corrections(&self, place: usize) -> Result<Vec<(&File, Element)>, Refusal> {
-        let wrong = self.open(place)?.wrong;
-        let (ring, shares) = (self.params().ring(), self.shares(place));
-        let right: Vec<Share> = shares.iter().rev().filter(|s| wrong & s.bit() == 0).take(self.params().t + 1).copied().collect();
-        let polynomial = lagrange(&ring, &right);
-        let named = self.files.iter().zip(&shares).filter(|(_, s)| wrong & s.bit() != 0);
-        Ok(named.map(|(file, s)| (file, ring.value(&polynomial, &ring.point(s.holder)))).collect())
+        let named = corrections(self.params(), &self.shares(place), self.open(place)?.wrong);
+        named.into_iter().map(|(s, value)| Ok((self.file(s.holder)?, value))).collect()
     }
 
     /// The lines of the program `mend`: the changed places by job and then by holder, and the jobs that keep their bytes.
@@ -64,7 +58,7 @@ pub fn report(input: &[u8]) -> String {
 #[cfg(test)]
 mod tests {
     use super::*;
-    use crate::{deal, share, write_bundle, write_file, write_order, Params};
+    use crate::{deal, share, write_bundle, write_file, write_order, Params, Share};
 
     /// A bundle of all holders' files of three jobs, each with other coefficients.
     fn written(p: Params, e: u8) -> Vec<u8> {

@@ -1,6 +1,6 @@
 //! Calls on lent words: dealing, opening, adding, multiplying, the inverse. The order of refusals is 1, 2, 4, 3, 5, 6; opening has no 3.
 
-use crate::decode::{decode, Opened};
+use crate::decode::{decode, lagrange, Opened, HOLDERS};
 use crate::ring::Element;
 use crate::{demand, Params, Refusal};
 
@@ -34,17 +34,37 @@ pub fn deal(p: Params, job: &[u64], coefficients: &[u64], out: &mut [u64]) -> Re
     Ok(())
 }
 
-pub fn open(p: Params, holders: &[u64], words: &[u64], e: u64, out: &mut [u64], wrong: &mut [u64]) -> Result<(), Refusal> {
+pub fn open(
+    p: Params,
+    holders: &[u64],
+    words: &[u64],
+    e: u64,
+    out: &mut [u64],
+    wrong: &mut [u64],
+    lowest: &mut [u8],
+) -> Result<(), Refusal> {
     p.check()?;
-    let lengths = holders.len().checked_mul(p.d) == Some(words.len()) && out.len() == p.d && wrong.len() == 1;
-    demand(lengths, Refusal::Length)?;
+    demand(holders.len().checked_mul(p.d) == Some(words.len()), Refusal::Length)?;
+    opening_lengths(p, out, wrong, lowest)?;
     let in_range = holders.iter().all(|h| (1..=p.n as u64).contains(h));
     demand(in_range && holders.windows(2).all(|pair| pair[0] < pair[1]), Refusal::Holder)?;
     let shares: Vec<Share> = holders.iter().zip(words.chunks(p.d)).map(|(h, ws)| share(*h as usize, ws)).collect();
-    let opened = open_shares(p, e, &shares)?;
-    out.copy_from_slice(&opened.words[..p.d]);
-    wrong[0] = opened.wrong;
+    open_shares(p, e, &shares)?.put(out, wrong, lowest);
     Ok(())
+}
+
+/// The lengths of what an opening fills.
+pub(crate) fn opening_lengths(p: Params, out: &[u64], wrong: &[u64], lowest: &[u8]) -> Result<(), Refusal> {
+    demand([out.len(), wrong.len(), lowest.len()] == [p.d, 1, HOLDERS], Refusal::Length)
+}
+
+impl Opened {
+    /// Fills outputs of the right lengths.
+    pub(crate) fn put(&self, out: &mut [u64], wrong: &mut [u64], lowest: &mut [u8]) {
+        out.copy_from_slice(&self.words[..out.len()]);
+        wrong[0] = self.wrong;
+        lowest.copy_from_slice(&self.lowest);
+    }
 }
 
 /// The refusals 5, 6 and the answer, of shares with any words.
@@ -52,6 +72,16 @@ pub(crate) fn open_shares(p: Params, e: u64, shares: &[Share]) -> Result<Opened,
     let needed = p.t as u128 + 1 + 2 * u128::from(e);
     demand(shares.len() as u128 >= needed, Refusal::TooFewShares)?;
     decode(&p.ring(), p.t, e as usize, shares).ok_or(Refusal::NoCodeword)
+}
+
+/// The wrong shares of an opening, each with the value that belongs there. At least t + 1 shares are right, and there is one polynomial through
+/// them, so that any t + 1 of them tell it: here the last ones.
+pub fn corrections(p: Params, shares: &[Share], wrong: u64) -> Vec<(Share, Element)> {
+    let ring = p.ring();
+    let right: Vec<Share> = shares.iter().rev().filter(|s| wrong & s.bit() == 0).take(p.t + 1).copied().collect();
+    let polynomial = lagrange(&ring, &right);
+    let named = shares.iter().filter(|s| wrong & s.bit() != 0);
+    named.map(|s| (*s, ring.value(&polynomial, &ring.point(s.holder)))).collect()
 }
 
 pub fn add(p: Params, a: &[u64], b: &[u64], out: &mut [u64]) -> Result<(), Refusal> {

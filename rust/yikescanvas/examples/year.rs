@@ -76,17 +76,19 @@ fn main() -> Result<(), Refusal> {
     write_bundle(ALLOWANCE, &files, &mut bundle)?;
     println!("{JOBS} jobs in {} files, a bundle of {} bytes", files.len() / size, bundle.len());
 
-    // every job opens as it was dealt; which labs are named, and how often
-    let (mut right, mut named) = (0, [0; 15]);
+    // every job opens as it was dealt; which labs are named, how often, and from which bits on: a converter that turns one bit always shows there
+    let (mut right, mut named) = (0, vec![Vec::new(); BOOK.n]);
     for (place, words) in jobs.iter().enumerate() {
         let mut out = [0; 4];
-        let wrong = open_place(&bundle, place, &mut out)?;
+        let opened = open_place(&bundle, place, &mut out)?;
         right += usize::from(out == *words);
-        holders(wrong).for_each(|lab| named[lab - 1] += 1);
+        (1..=BOOK.n).for_each(|lab| named[lab - 1].extend(opened.lowest_bit(lab)));
     }
     println!("{right} open to the job that was dealt");
-    for (i, times) in named.iter().enumerate().filter(|(_, times)| **times != 0) {
-        println!("lab {}: wrong in {times}", i + 1);
+    for (i, bits) in named.iter().enumerate() {
+        if let (Some(least), Some(most)) = (bits.iter().min(), bits.iter().max()) {
+            println!("lab {}: wrong in {}, the lowest bit from {least} to {most}", i + 1, bits.len());
+        }
     }
     let mut line = [0; LINE];
     for place in 0..5 {
@@ -96,7 +98,7 @@ fn main() -> Result<(), Refusal> {
 
     // the totals, opened while each job stays closed, and read as signed numbers: they are the sums of what was dealt
     let mut sums = [0; 4];
-    let wrong = open_run(&bundle, 0, JOBS, &mut sums)?;
+    let wrong = open_run(&bundle, 0, JOBS, &mut sums)?.wrong;
     for (j, name) in [(0, "sphere"), (3, "thickness")] {
         let mut dealt = 0;
         for words in &jobs {

@@ -20,7 +20,7 @@ extern "C" {
     pub fn yikes_open(
         k: u64, d: usize, n: usize, t: usize,
         holders: *const u64, holders_length: usize, shares: *const u64, shares_length: usize, e: u64,
-        out: *mut u64, out_length: usize, wrong: *mut u64, wrong_length: usize,
+        out: *mut u64, out_length: usize, wrong: *mut u64, wrong_length: usize, lowest: *mut u8, lowest_length: usize,
     ) -> c_uchar;
     pub fn yikes_signed(k: u64, w: u64, out: *mut u64, out_length: usize) -> c_uchar;
     pub fn yikes_write_file(
@@ -38,7 +38,8 @@ extern "C" {
     ) -> c_uchar;
     pub fn yikes_file(bundle: *const u8, bundle_length: usize, index: usize, part: *mut u64, part_length: usize) -> c_uchar;
     pub fn yikes_open_place(
-        bundle: *const u8, bundle_length: usize, place: usize, out: *mut u64, out_length: usize, wrong: *mut u64, wrong_length: usize,
+        bundle: *const u8, bundle_length: usize, place: usize,
+        out: *mut u64, out_length: usize, wrong: *mut u64, wrong_length: usize, lowest: *mut u8, lowest_length: usize,
     ) -> c_uchar;
     pub fn yikes_total(
         bundle: *const u8, bundle_length: usize, holder: usize, a: usize, b: usize, out: *mut u64, out_length: usize,
@@ -48,7 +49,7 @@ extern "C" {
     ) -> c_uchar;
     pub fn yikes_open_run(
         bundle: *const u8, bundle_length: usize, a: usize, b: usize,
-        out: *mut u64, out_length: usize, wrong: *mut u64, wrong_length: usize,
+        out: *mut u64, out_length: usize, wrong: *mut u64, wrong_length: usize, lowest: *mut u8, lowest_length: usize,
     ) -> c_uchar;
     pub fn yikes_fetch_body(
         bundle: *const u8, bundle_length: usize, holder: usize, place: usize, part: *mut u64, part_length: usize,

@@ -8,7 +8,7 @@
 //! let mut shares = [0; 6];
 //! deal(book, &[5, 2], &[3, 1], &mut shares)?;
 //! let mut job = [0; 2];
-//! assert_eq!(open_shares(book, &[1, 2, 3], &shares, 0, &mut job)?, 0);
+//! assert_eq!(open_shares(book, &[1, 2, 3], &shares, 0, &mut job)?.wrong, 0);
 //! assert_eq!(job, [5, 2]);
 //! # Ok::<(), yikescanvas::Refusal>(())
 //! ```
@@ -121,7 +121,7 @@ fn told(number: u8) -> Result<(), Refusal> {
 }
 
 /// What every line of [`list_line`] fits into.
-pub const LINE: usize = 400;
+pub const LINE: usize = 1024;
 
 /// The bytes of an order.
 pub const ORDER_SIZE: usize = 7;
@@ -135,6 +135,35 @@ pub fn file_size(p: Params, jobs: usize) -> Option<usize> {
 /// The holders of a set, rising: bit i - 1 stands for holder i.
 pub fn holders(set: u64) -> impl Iterator<Item = usize> {
     (1..=64).filter(move |i| set >> (i - 1) & 1 == 1)
+}
+
+/// Whose shares an opening found wrong, and from which bit on.
+#[derive(Clone, Copy, Debug, PartialEq, Eq)]
+pub struct Opened {
+    /// The set of the holders whose shares are wrong, which [`holders`] lists.
+    pub wrong: u64,
+    /// For holder i the entry i - 1: the lowest bit, 0 to 63, at which a word of its share differs from the value that belongs there, or
+    /// [`NOT_WRONG`].
+    pub lowest: [u8; 64],
+}
+
+/// The entry of [`Opened::lowest`] for a holder whose share is not wrong, or who has none.
+pub const NOT_WRONG: u8 = 255;
+
+impl Opened {
+    /// The lowest bit at which a word of this holder's share differs from the value that belongs there, counted from 0 and over all words; `None`
+    /// where its share is not wrong. It is k or more where the share is right in the low k bits of every word, and has a word of 2^k or more.
+    pub fn lowest_bit(&self, holder: usize) -> Option<u8> {
+        let entry = self.lowest.get(holder.checked_sub(1)?)?;
+        Some(*entry).filter(|bit| *bit != NOT_WRONG)
+    }
+}
+
+/// Runs a call that opens on a set and on entries of the right lengths.
+fn opened(call: impl FnOnce(&mut [u64; 1], &mut [u8; 64]) -> u8) -> Result<Opened, Refusal> {
+    let (mut wrong, mut lowest) = ([0], [0; 64]);
+    told(call(&mut wrong, &mut lowest))?;
+    Ok(Opened { wrong: wrong[0], lowest })
 }
 
 // Every call below passes the pointer and the length of slices that live for the call, an output by `&mut`, so that it overlaps nothing: that is
@@ -163,10 +192,9 @@ pub fn deal(p: Params, job: &[u64], coefficients: &[u64], out: &mut [u64]) -> Re
 }
 
 /// Opens a job from the shares of `holders`, d words each, of which at most e are wrong: the job's words go to `out`, and the set of the
-/// holders whose shares are wrong comes back. A share with a word of 2^k or more is wrong.
-pub fn open_shares(p: Params, holders: &[u64], shares: &[u64], e: u64, out: &mut [u64]) -> Result<u64, Refusal> {
-    let mut wrong = [0];
-    told(unsafe {
+/// holders whose shares are wrong comes back, with the lowest bit at which each differs. A share with a word of 2^k or more is wrong.
+pub fn open_shares(p: Params, holders: &[u64], shares: &[u64], e: u64, out: &mut [u64]) -> Result<Opened, Refusal> {
+    opened(|wrong, lowest| unsafe {
         ffi::yikes_open(
             p.k,
             p.d,
@@ -181,9 +209,10 @@ pub fn open_shares(p: Params, holders: &[u64], shares: &[u64], e: u64, out: &mut
             out.len(),
             wrong.as_mut_ptr(),
             wrong.len(),
+            lowest.as_mut_ptr(),
+            lowest.len(),
         )
-    })?;
-    Ok(wrong[0])
+    })
 }
 
 /// The signed reading of a word of k bits.
@@ -348,13 +377,21 @@ pub fn files(bundle: &[u8]) -> Result<Vec<FilePart>, Refusal> {
 }
 
 /// Opens the job at a place: its words go to `out`, and the set of the wrong holders comes back, those of shares with a word of 2^k or more
-/// among them.
-pub fn open_place(bundle: &[u8], place: usize, out: &mut [u64]) -> Result<u64, Refusal> {
-    let mut wrong = [0];
-    told(unsafe {
-        ffi::yikes_open_place(bundle.as_ptr(), bundle.len(), place, out.as_mut_ptr(), out.len(), wrong.as_mut_ptr(), wrong.len())
-    })?;
-    Ok(wrong[0])
+/// among them, with the lowest bit at which each share differs.
+pub fn open_place(bundle: &[u8], place: usize, out: &mut [u64]) -> Result<Opened, Refusal> {
+    opened(|wrong, lowest| unsafe {
+        ffi::yikes_open_place(
+            bundle.as_ptr(),
+            bundle.len(),
+            place,
+            out.as_mut_ptr(),
+            out.len(),
+            wrong.as_mut_ptr(),
+            wrong.len(),
+            lowest.as_mut_ptr(),
+            lowest.len(),
+        )
+    })
 }
 
 /// The total of a holder's file over the places a to b - 1.
@@ -369,14 +406,23 @@ pub fn add_total(bundle: &[u8], holder: usize, a: usize, b: usize, running: &mut
     told(unsafe { ffi::yikes_add_total(bundle.as_ptr(), bundle.len(), holder, a, b, running.as_mut_ptr(), running.len()) })
 }
 
-/// Opens the sum of the jobs at the places a to b - 1, as [`open_place`] does one job. A word of 2^k or more in any file's share of one of them
-/// declines, also in a run of one place.
-pub fn open_run(bundle: &[u8], a: usize, b: usize, out: &mut [u64]) -> Result<u64, Refusal> {
-    let mut wrong = [0];
-    told(unsafe {
-        ffi::yikes_open_run(bundle.as_ptr(), bundle.len(), a, b, out.as_mut_ptr(), out.len(), wrong.as_mut_ptr(), wrong.len())
-    })?;
-    Ok(wrong[0])
+/// Opens the sum of the jobs at the places a to b - 1, as [`open_place`] does one job: the lowest bits are those of the sums. A word of 2^k or
+/// more in any file's share of one of them declines, also in a run of one place.
+pub fn open_run(bundle: &[u8], a: usize, b: usize, out: &mut [u64]) -> Result<Opened, Refusal> {
+    opened(|wrong, lowest| unsafe {
+        ffi::yikes_open_run(
+            bundle.as_ptr(),
+            bundle.len(),
+            a,
+            b,
+            out.as_mut_ptr(),
+            out.len(),
+            wrong.as_mut_ptr(),
+            wrong.len(),
+            lowest.as_mut_ptr(),
+            lowest.len(),
+        )
+    })
 }
 
 /// Where the body of a job record stands in the bundle, by holder and place.

@@ -19,6 +19,16 @@ fn declines_bytes<T: std::fmt::Debug + PartialEq>(expected: Refusal, length: usi
     assert!(out.iter().all(|b| *b == 0xa5));
 }
 
+/// What an opening gives in which these holders are wrong, each from a bit on, and no others.
+fn wrong(bits: &[(usize, u8)]) -> Result<Opened, Refusal> {
+    let mut opened = Opened { wrong: 0, lowest: [NOT_WRONG; 64] };
+    for (holder, bit) in bits {
+        opened.wrong |= 1 << (holder - 1);
+        opened.lowest[holder - 1] = *bit;
+    }
+    Ok(opened)
+}
+
 /// Books with one number out of its range.
 fn outside() -> Vec<Params> {
     let mut books = vec![];
@@ -107,11 +117,11 @@ fn shares() {
     assert_eq!(deal(BOOK, &[5, 2], &[3, 1], &mut shares), Ok(()));
     assert_eq!(shares, [0, 3, 4, 4, 7, 5]);
     let mut out = [0; 2];
-    assert_eq!(open_shares(BOOK, &[1, 2, 3], &shares, 0, &mut out), Ok(0));
+    assert_eq!(open_shares(BOOK, &[1, 2, 3], &shares, 0, &mut out), wrong(&[]));
     assert_eq!(out, [5, 2]);
-    assert_eq!(open_shares(BOOK, &[1, 3], &[0, 3, 3, 5], 0, &mut out), Ok(0));
+    assert_eq!(open_shares(BOOK, &[1, 3], &[0, 3, 3, 5], 0, &mut out), wrong(&[]));
     assert_eq!(out, [1, 6]);
-    assert_eq!(open_shares(FLAT, &[1, 2, 3], &[5, 2, 5, 2, 1, 2], 1, &mut out), Ok(4));
+    assert_eq!(open_shares(FLAT, &[1, 2, 3], &[5, 2, 5, 2, 1, 2], 1, &mut out), wrong(&[(3, 2)]));
     assert_eq!(out, [5, 2]);
     assert_eq!(holders(0b101).collect::<Vec<_>>(), [1, 3]);
 
@@ -144,14 +154,47 @@ fn shares() {
 #[test]
 fn wide_shares() {
     let mut out = [0; 2];
-    assert_eq!(open_shares(FLAT, &[1, 2, 3], &[5, 2, 5 + 8, 2, 5, 2], 1, &mut out), Ok(2));
+    assert_eq!(open_shares(FLAT, &[1, 2, 3], &[5, 2, 5 + 8, 2, 5, 2], 1, &mut out), wrong(&[(2, 3)]));
     assert_eq!(out, [5, 2]);
-    assert_eq!(open_shares(FLAT, &[1, 2, 3], &[5, 2, 5, 2, 8, u64::MAX], 1, &mut out), Ok(4));
+    assert_eq!(open_shares(FLAT, &[1, 2, 3], &[5, 2, 5, 2, 8, u64::MAX], 1, &mut out), wrong(&[(3, 0)]));
     assert_eq!(out, [5, 2]);
     declines(Refusal::NoCodeword, 2, |o| open_shares(FLAT, &[1, 2, 3], &[5, 2, 5 + 8, 2, 5, 2], 0, o));
     declines(Refusal::NoCodeword, 2, |o| open_shares(FLAT, &[1, 2, 3], &[5, 2, 5 + 8, 2, 5 + 8, 2], 1, o));
     declines(Refusal::NoCodeword, 2, |o| open_shares(FLAT, &[1, 2, 3], &[5, 2, 5 + 8, 2, 1, 2], 1, o));
     declines(Refusal::TooFewShares, 2, |o| open_shares(FLAT, &[1, 2], &[5, 2, 5 + 8, 2], 1, o));
+}
+
+/// The lowest bit over all words of a wrong share, and of a wide word at all 64 bits.
+#[test]
+fn lowest_bits() {
+    const FIVE: Params = Params { k: 6, d: 3, n: 5, t: 0 };
+    let (right, top) = ([5, 2, 0], 1 << 63);
+    for (share, bit) in [
+        ([5 ^ 32, 2, 2], 1),
+        ([5 ^ 2, 2, 32], 1),
+        ([4, 2, 0], 0),
+        ([5, 2 ^ 48, 0], 4),
+        ([5, 2, 32], 5),
+        ([5 + 64, 2, 0], 6),
+        ([5 + top, 2, 64], 6),
+        ([5, 2, top], 63),
+        ([5 + 64, 2, 4], 2),
+        ([5 ^ 4, 2 + top, 0], 2),
+        ([!5, !2, !0], 0),
+    ] {
+        for holder in 1..=5 {
+            let other = 1 + holder % 5;
+            let words: Vec<u64> = (1..=5).flat_map(|i| if i == holder { share } else { [5, 2, if i == other { 16 } else { 0 }] }).collect();
+            let mut out = [0; 3];
+            let opened = open_shares(FIVE, &[1, 2, 3, 4, 5], &words, 2, &mut out);
+            assert_eq!((out, opened), (right, wrong(&[(holder, bit), (other, 4)])));
+            let opened = opened.unwrap();
+            assert_eq!((opened.lowest_bit(holder), opened.lowest_bit(other)), (Some(bit), Some(4)));
+            let named: Vec<usize> = (0..=64).filter(|i| opened.lowest_bit(*i).is_some()).collect();
+            assert_eq!(named, holders(opened.wrong).collect::<Vec<_>>());
+            assert_eq!((opened.lowest_bit(65), opened.lowest_bit(usize::MAX)), (None, None));
+        }
+    }
 }
 
 #[test]
@@ -316,21 +359,21 @@ fn bundles() {
     let bundle = bundle();
     let mut out = [0; 2];
     assert_eq!(accept(&bundle), Ok(()));
-    assert_eq!(open_place(&bundle, 0, &mut out), Ok(4));
+    assert_eq!(open_place(&bundle, 0, &mut out), wrong(&[(3, 2)]));
     assert_eq!(out, [5, 2]);
     assert_eq!(total(&bundle, 1, 0, 2, &mut out), Ok(()));
     assert_eq!(out, [2, 4]);
-    assert_eq!(open_run(&bundle, 1, 1, &mut out), Ok(0));
+    assert_eq!(open_run(&bundle, 1, 1, &mut out), wrong(&[]));
     assert_eq!(out, [0, 0]);
-    assert_eq!(open_run(&bundle, 0, 1, &mut out), Ok(4));
+    assert_eq!(open_run(&bundle, 0, 1, &mut out), wrong(&[(3, 2)]));
     assert_eq!(out, [5, 2]);
     assert_eq!(fetch_range(&bundle, 2, 1), Ok(149..173));
     assert_eq!(fetch_body(&bundle, 2, 1).map(|b| b[0]), Ok(11));
     assert_eq!(fetch_fault(&bundle, 2, 1), Ok(()));
     let mut line = [0xa5; LINE + 1];
-    assert_eq!(list_line(&bundle, 0, &mut line), Ok(15));
-    assert_eq!(&line[..15], b"10 open 3 -3,2\n");
-    assert!(line[15..].iter().all(|b| *b == 0xa5));
+    assert_eq!(list_line(&bundle, 0, &mut line), Ok(17));
+    assert_eq!(&line[..17], b"10 open 3/2 -3,2\n");
+    assert!(line[17..].iter().all(|b| *b == 0xa5));
 
     declines(Refusal::NoCodeword, 2, |o| open_place(&bundle, 1, o));
     declines(Refusal::NoCodeword, 2, |o| open_run(&bundle, 0, 2, o));
@@ -360,10 +403,10 @@ fn bundles() {
     // holder 3's share of job 10 is right in its low bits, and wide
     let mut wide = bundle.clone();
     (wide[210], wide[217]) = (5, 128);
-    assert_eq!(open_place(&wide, 0, &mut out), Ok(4));
+    assert_eq!(open_place(&wide, 0, &mut out), wrong(&[(3, 63)]));
     assert_eq!(out, [5, 2]);
-    assert_eq!(list_line(&wide, 0, &mut line), Ok(15));
-    assert_eq!(&line[..15], b"10 open 3 -3,2\n");
+    assert_eq!(list_line(&wide, 0, &mut line), Ok(18));
+    assert_eq!(&line[..18], b"10 open 3/63 -3,2\n");
     declines(Refusal::WideWord, 2, |o| open_run(&wide, 0, 1, o));
     declines(Refusal::WideWord, 2, |o| open_run(&wide, 0, 2, o));
     declines(Refusal::WideWord, 2, |o| total(&wide, 3, 0, 1, o));
@@ -446,7 +489,7 @@ fn mending() {
     assert_eq!(mended(&bundle), right);
     assert_eq!(mended(&right), right);
     let mut out = [0; 2];
-    assert_eq!(open_place(&right, 0, &mut out), Ok(0));
+    assert_eq!(open_place(&right, 0, &mut out), wrong(&[]));
     assert_eq!(out, [5, 2]);
     declines(Refusal::NoCodeword, 2, |o| open_place(&right, 1, o));
     for n in [0, 1, 255, 257, 512] {
