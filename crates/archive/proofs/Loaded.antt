@@ -83,8 +83,8 @@ module _ (bs : List ℕ) (h : Heading) (e : h ≡ bundleHeading bs) (n : ℕ) (f
         InWidth (h .params .k) (h .params .d) (sharesIn bs ys)
     loaded-width x = rw (loaded, e) (shares-width (paramsOf bs .k) bs w x)
 
-  pub loaded-length : {A : Type 0} (f : ℕ → A) (ys old : List A) → bundleFault bs ≡ 0 → length old ≡ 63 → ys ≡ valuesFrom f 0 n ++ drop n old →
-      length ys ≡ 63
+  pub loaded-length : {A : Type 0} (f : ℕ → A) (ys old : List A) → bundleFault bs ≡ 0 → length old ≡ 63 →
+      ys ≡ valuesFrom f 0 n ++ drop n old → length ys ≡ 63
   loaded-length f ys old z l x =
       let m : n ≤ length old = omega (arith, files, l, files-most bs (bundle-ok bs z)) in
       ap length x ∙ length-front old (valuesFrom f 0 n) n (values-count f 0 n ∙ sym (length-take-le n old m)) ∙ l
@@ -96,7 +96,8 @@ module _ (bs : List ℕ) (h : Heading) (e : h ≡ bundleHeading bs) (n : ℕ) (f
       (range-ok (paramsOf bs) (bundle-ranges bs (bundle-ok bs z) .book), files-most bs (bundle-ok bs z), shares-ordered bs z _)
 
   -- what it answers
-  pub answered : (ys : Rows) (ss : List Share) → ss ≡ sharesIn bs ys → (a : ℕ) → a ≡ allowanceOf bs → answerTo (h .params) a ss ≡ openingOf bs ys
+  pub answered : (ys : Rows) (ss : List Share) → ss ≡ sharesIn bs ys → (a : ℕ) → a ≡ allowanceOf bs →
+      answerTo (h .params) a ss ≡ openingOf bs ys
   answered ys ss q a m = rw (q, m, e)
 
 -- a job whose words are in width, in each file

@@ -23,7 +23,8 @@ use Rattle.fetch.specs.Fetch.{placeFault, runFault}
 use Rattle.fetch.proofs.Fetch.{place-in, place-none, run-in, run-none}
 use Rattle.totals.specs.Total.{runTotal}
 use Rattle.archive.specs.Archive.{sharesAt, sharesOver, filesInWidth, placeOpening, runOpening, outputsFault, openingFault, openPlace, openRun}
-use Rattle.archive.specs.Clear.{PlaceClear, RunClear, Enough, PlaceReturned, PlaceTells, PlaceTellsWide, PlaceTellsLowest, RunReturned, RunTells, RunTellsLowest}
+use Rattle.archive.specs.Clear.{PlaceClear, RunClear, Enough, PlaceReturned, PlaceTells, PlaceTellsWide, PlaceTellsLowest}
+use Rattle.archive.specs.Clear.{RunReturned, RunTells, RunTellsLowest}
 use Rattle.archive.proofs.Ahead.{opening-holds, passed-none, ahead-of}
 use Rattle.archive.proofs.Loaded.{run-declines}
 use Rattle.archive.proofs.Shares.{shares-count, place-stored, run-stored}
@@ -157,8 +158,8 @@ module _ (bs : List ℕ) (a b n w lo : ℕ) where
       (x .0, rw (shares-count bs (λ f. runTotal bs f a (b - a))) at (x .1))
 
   -- a wide word in the run gives 3, also where the run is of one place
-  pub run-wide : bundleFault bs ≡ 0 → n ≡ paramsOf bs .d → w ≡ 1 → lo ≡ lowestRoom → a ≤ b → b ≤ bundleHeading bs .jobs → filesInWidth bs a (b - a) ≡ false →
-      openRun bs a b n w lo ≡ declines WIDE-WORD
+  pub run-wide : bundleFault bs ≡ 0 → n ≡ paramsOf bs .d → w ≡ 1 → lo ≡ lowestRoom → a ≤ b → b ≤ bundleHeading bs .jobs →
+      filesInWidth bs a (b - a) ≡ false → openRun bs a b n w lo ≡ declines WIDE-WORD
   unfolding openRun
   run-wide z o x y l u f =
       unless-none _ (runOpening bs a (b - a))

@@ -117,31 +117,31 @@ module _ (bs : List ℕ) (w : ℕ → Element) (q : Polynomial) where
 
 -- ---- runs of dealt jobs
 
-module _ (bs : List ℕ) (z : bundleFault bs ≡ 0) (q : ℕ → Polynomial) (a n : ℕ) (polys : Polys bs q n) (f : ℕ) (holds : holdsDealt bs q a n f ≡ true)
-  where
-    dealt-words : (i : ℕ) → i < n → wordsOf bs f (a + i) ≡ value (paramsOf bs .k) (paramsOf bs .d) (q i) (point (paramsOf bs .d) (holderOf bs f))
-    unfolding holdsDealt
-    dealt-words i l =
-        let s : ℕ → Share = λ j. shareBy bs (λ g. wordsOf bs g (a + j)) f in
-        right-value (paramsOf bs .k) (paramsOf bs .d) (q i) (s i)
-        (not-true _ (every-each (λ j. not (differs (paramsOf bs .k) (paramsOf bs .d) (q j) (s j))) n i holds l))
+module _ (bs : List ℕ) (z : bundleFault bs ≡ 0) (q : ℕ → Polynomial) (a n : ℕ) (polys : Polys bs q n) (f : ℕ)
+    (holds : holdsDealt bs q a n f ≡ true) where
+  dealt-words : (i : ℕ) → i < n → wordsOf bs f (a + i) ≡ value (paramsOf bs .k) (paramsOf bs .d) (q i) (point (paramsOf bs .d) (holderOf bs f))
+  unfolding holdsDealt
+  dealt-words i l =
+      let s : ℕ → Share = λ j. shareBy bs (λ g. wordsOf bs g (a + j)) f in
+      right-value (paramsOf bs .k) (paramsOf bs .d) (q i) (s i)
+      (not-true _ (every-each (λ j. not (differs (paramsOf bs .k) (paramsOf bs .d) (q j) (s j))) n i holds l))
 
-    -- the total of a file that holds what was dealt is its holder's share of the sum
-    dealt-total : runTotal bs f a n ≡ value (paramsOf bs .k) (paramsOf bs .d) (sumPoly bs q n) (point (paramsOf bs .d) (holderOf bs f))
-    dealt-total =
-        let k = paramsOf bs .k in
-        let d = paramsOf bs .d in
-        sum-same k d (λ i. wordsOf bs f (a + i)) (λ i. value k d (q i) (point d (holderOf bs f))) n dealt-words
-        ∙ sym (value-sums k d (paramsOf bs .t) q (range bs z .d-low) (range bs z .d-high) n polys (holderOf bs f))
+  -- the total of a file that holds what was dealt is its holder's share of the sum
+  dealt-total : runTotal bs f a n ≡ value (paramsOf bs .k) (paramsOf bs .d) (sumPoly bs q n) (point (paramsOf bs .d) (holderOf bs f))
+  dealt-total =
+      let k = paramsOf bs .k in
+      let d = paramsOf bs .d in
+      sum-same k d (λ i. wordsOf bs f (a + i)) (λ i. value k d (q i) (point d (holderOf bs f))) n dealt-words
+      ∙ sym (value-sums k d (paramsOf bs .t) q (range bs z .d-low) (range bs z .d-high) n polys (holderOf bs f))
 
-    -- and its words are in width
-    dealt-width : (i : ℕ) → i < n → allInWidth (paramsOf bs .k) (wordsOf bs f (a + i)) ≡ true
-    dealt-width i l =
-        let k = paramsOf bs .k in
-        let d = paramsOf bs .d in
-        ap (allInWidth k) (dealt-words i l)
-        ∙ value-element d (range bs z .d-low) (range bs z .d-high) k (q i) (rows-of k d (paramsOf bs .t) (q i) (polys i l))
-        (shareBy bs (λ g. []) f) .1
+  -- and its words are in width
+  dealt-width : (i : ℕ) → i < n → allInWidth (paramsOf bs .k) (wordsOf bs f (a + i)) ≡ true
+  dealt-width i l =
+      let k = paramsOf bs .k in
+      let d = paramsOf bs .d in
+      ap (allInWidth k) (dealt-words i l)
+      ∙ value-element d (range bs z .d-low) (range bs z .d-high) k (q i) (rows-of k d (paramsOf bs .t) (q i) (polys i l))
+      (shareBy bs (λ g. []) f) .1
 
 -- up to e files hold something else somewhere in the run
 pub changed-run-opens : (bs : List ℕ) (q : ℕ → Polynomial) (a b n w lo : ℕ) → Polys bs q (b - a) → RunClear bs a b n w lo → Enough bs →
