@@ -1,5 +1,4 @@
 pub mod Candidate
-pub mod Compared
 pub mod Drop
 pub mod ErrorSet
 pub mod Find

@@ -25,12 +25,12 @@ use Rattle.algebra.specs.Shares.{All}
 use Rattle.algebra.proofs.Shares.{all-map}
 use Rattle.galois.specs.Element.{Element, point, reduce}
 use Rattle.galois.proofs.Narrow.{reduce-at}
+use Rattle.comparison.specs.Comparison.{compared, unequal, positionOf, LowestBit}
+use Rattle.comparison.specs.declared.Comparison.the-variants.{None}
+use Rattle.comparison.proofs.Compared.{none-position, some-position, position-byte, lowest-bit, lowest-room}
 use Rattle.codewords.specs.Codeword.{Share, Polynomial, value, comparison, differs, wide, comparisonOf, positionsFrom, positions}
-use Rattle.codewords.specs.Comparison.{compared, unequal, positionOf}
-use Rattle.codewords.specs.Demand.{Wrong, positionFor, valueAt, LowestBit, Positions}
+use Rattle.codewords.specs.Demand.{Wrong, positionFor, valueAt, Positions}
 use Rattle.codewords.specs.WellFormed.{IsElement, IsPoly, InWidth, Different, Holders}
-use Rattle.codewords.specs.declared.Comparison.the-variants.{None}
-use Rattle.codewords.proofs.Compared.{none-position, some-position, position-byte, lowest-bit, lowest-room}
 use Rattle.codewords.proofs.ErrorSet.{Has, look, all-in}
 use Rattle.codewords.proofs.Value.{rows-of, value-element}
 use Rattle.codewords.proofs.Wide.{wide-differs}

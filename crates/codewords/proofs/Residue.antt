@@ -19,11 +19,11 @@ use Rattle.galois.proofs.Lists.{toList, ofList, toList-inj, length-toList, widt
 use Rattle.galois.proofs.Elements.{same-eq, eq-same}
 use Rattle.galois.proofs.Instance.{ringOf}
 use Rattle.polynomial.proofs.OverRing.{polyOf}
+use Rattle.comparison.specs.Comparison.{apart}
+use Rattle.comparison.proofs.Compared.{unequal-same}
 use Rattle.codewords.specs.Codeword.{Share, Polynomial, value, differs}
-use Rattle.codewords.specs.Comparison.{apart}
 use Rattle.codewords.specs.Residue.{residue, bitOf}
 use Rattle.codewords.specs.WellFormed.{IsElement, IsPoly}
-use Rattle.codewords.proofs.Compared.{unequal-same}
 use Rattle.codewords.proofs.Value.{shareOf, Rows, rows-of, value-at, value-element, differs-misses}
 
 module _ (d : ℕ) (dl : 2 ≤ d) (dh : d ≤ 6) (k : ℕ) (p : Polynomial) (r : Rows d p) where

@@ -18,10 +18,10 @@ use Rattle.galois.proofs.Lists.{toList, ofList, length-toList, of-to, to-of, wi
 use Rattle.galois.proofs.Points.{length-point, pointR}
 use Rattle.galois.proofs.Instance.{ringOf}
 use Rattle.polynomial.proofs.OverRing.{polyOf, value-of}
+use Rattle.comparison.specs.Comparison.{unequal}
+use Rattle.comparison.proofs.Compared.{none-same, same-none, unequal-same}
 use Rattle.codewords.specs.Codeword.{Share, Polynomial, value, differs, errors, when}
-use Rattle.codewords.specs.Comparison.{unequal}
 use Rattle.codewords.specs.WellFormed.{IsElement, IsPoly, InWidth}
-use Rattle.codewords.proofs.Compared.{none-same, same-none, unequal-same}
 use Rattle.codewords.proofs.Find.{fixed, zero-element}
 
 -- a share in the ring: words are cut to k bits

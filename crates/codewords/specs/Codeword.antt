@@ -7,11 +7,11 @@ use mathlib.Core.Option.{Option}
 use lib.Dec.{leb, eqb}
 use Rattle.words.specs.Word.{allInWidth}
 use Rattle.galois.specs.Element.{Element, point, elements, tuples, find}
-use Rattle.codewords.specs.Comparison.{compared, unequal, positionOf}
-use Rattle.codewords.specs.declared.Comparison.{Comparison}
-use Rattle.codewords.specs.declared.Comparison.the-variants.{None}
 pub use Rattle.polynomial.specs.Polynomial.{Polynomial}
 unfoldable pub use Rattle.polynomial.specs.Polynomial.{value}
+use Rattle.comparison.specs.Comparison.{compared, unequal, positionOf}
+use Rattle.comparison.specs.declared.Comparison.{Comparison}
+use Rattle.comparison.specs.declared.Comparison.the-variants.{None}
 
 -- A share as it stands under a holder. Its words are plain numbers: one of 2^k or more differs from every value.
 pub record Share : Type 0 where

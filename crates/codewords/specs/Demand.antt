@@ -11,6 +11,7 @@ use Rattle.algebra.specs.Shares.{All}
 use Rattle.words.specs.Refusal.{TOO-FEW-SHARES, NO-CODEWORD}
 use Rattle.words.specs.declared.Params.{Params}
 use Rattle.galois.specs.Element.{Element, point, reduce}
+use Rattle.comparison.specs.Comparison.{LowestBit}
 use Rattle.codewords.specs.Codeword.{Share, Polynomial, value, differs, errors, errorSet, wide, wideSet}
 use Rattle.codewords.specs.Opening.{Opening, declines, opens, faultOf, secretInto, wrongInto, lowestInto, lowestRoom}
 use Rattle.codewords.specs.WellFormed.{IsPoly}
@@ -104,13 +105,6 @@ pub record TellsWide (p : Params) (e : ℕ) (ss : List Share) (Clear : Type 0) (
   pub too-many : Clear → EnoughShares p e ss → e < ones (wideSet (p .k) ss) → r ≡ NO-CODEWORD
 
 -- ---- the lowest bits, paper 02, K4
-
--- "the lowest bit position at which any of its words differs": bit v of the word in some place of a is not that of the word in the same place of b,
--- and below bit v all their words agree
-pub record LowestBit (a b : Element) (v : ℕ) : Type 0 where
-  pub place : ℕ
-  pub differing : getD a place 0 / 2 ^ v % 2 ≢ getD b place 0 / 2 ^ v % 2
-  pub agreeing : (j : ℕ) → getD a j 0 % 2 ^ v ≡ getD b j 0 % 2 ^ v
 
 -- the codeword's value at holder i's point
 abbrev pub valueAt : Params → Polynomial → ℕ → Element

@@ -1,5 +1,4 @@
 pub mod Codeword
-pub mod Comparison
 pub mod Demand
 pub mod Linear
 pub mod Opening

@@ -1,13 +1,5 @@
 pub mod Answered
-pub mod Arrays
-pub mod Collected
-pub mod Compared
 pub mod Dropped
-pub mod Interpolated
-pub mod Left
-pub mod LevelFound
-pub mod Lowest
-pub mod Rows
 pub mod Positions
 pub mod Rounds
 pub mod WideDropped

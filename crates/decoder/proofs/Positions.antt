@@ -12,8 +12,8 @@ use Rattle.words.proofs.InRange.{InRange}
 use Rattle.algebra.specs.Shares.{All}
 use Rattle.algebra.proofs.Shares.{all-map, all-at}
 use Rattle.polynomial.specs.Rows.{Rows}
+use Rattle.comparison.specs.Comparison.{positionOf}
 use Rattle.codewords.specs.Codeword.{Share, Polynomial, when, comparison, differs, errorSet, positions}
-use Rattle.codewords.specs.Comparison.{positionOf}
 use Rattle.codewords.specs.WellFormed.{Holders}
 use Rattle.codewords.proofs.ErrorSet.{set-marks}
 use Rattle.codewords.proofs.Positions.{positions-none, positions-put, positions-kept, positions-clean}

@@ -22,13 +22,13 @@ use Rattle.codewords.specs.WellFormed.{InWidth, Rising, Holders}
 use Rattle.codewords.proofs.Unique.{codeword-sound, codeword-complete}
 use Rattle.codewords.proofs.Without.{holders-without, rising-without, in-width-without, tally, errorSet-tally, tally-reword, tally-le, tally-without}
 use Rattle.codewords.proofs.Jump.{bit-differs-at, ones-at, enough-without, jump-none, jump-with, progress}
-use Rattle.decoder.specs.Found.{lowestBit, levelFound}
+use Rattle.rounds.specs.Found.{lowestBit, levelFound}
 use Rattle.decoder.specs.LeftOut.{LeftOut}
-use Rattle.decoder.specs.Residues.{Through}
-use Rattle.decoder.specs.declared.Found.{Found}
-use Rattle.decoder.specs.declared.Found.the-variants.{Wrong, Nothing}
-use Rattle.decoder.proofs.LevelFound.{by-level, lowest-at}
-use Rattle.decoder.proofs.Lowest.{Lowest}
+use Rattle.rounds.specs.Residues.{Through}
+use Rattle.rounds.specs.declared.Found.{Found}
+use Rattle.rounds.specs.declared.Found.the-variants.{Wrong, Nothing}
+use Rattle.rounds.proofs.LevelFound.{by-level, lowest-at}
+use Rattle.rounds.proofs.Lowest.{Lowest}
 
 -- bit i − 1 for holder i, and the set of all holders
 abbrev holderBit : ℕ → ℕ

@@ -1,4 +1,2 @@
 pub mod Decoded
-pub mod Found
 pub mod LeftOut
-pub mod Residues

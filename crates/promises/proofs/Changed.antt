@@ -11,11 +11,11 @@ use Rattle.algebra.specs.Shares.{All}
 use Rattle.galois.specs.Element.{Element, point}
 use Rattle.algebra.proofs.Shares.{all-map}
 use Rattle.words.proofs.Tests.{true-false, bool-cases}
-use Rattle.codewords.proofs.Compared.{none-same, apart-not}
+use Rattle.comparison.proofs.Compared.{none-same, apart-not}
+use Rattle.comparison.specs.Comparison.{apart}
 use Rattle.codewords.proofs.ErrorSet.{set-ones}
 use Rattle.codewords.proofs.Without.{tally, countOf, setOf}
 use Rattle.codewords.specs.Codeword.{Share, Polynomial, value, when, differs, errorSet}
-use Rattle.codewords.specs.Comparison.{apart}
 use Rattle.codewords.specs.WellFormed.{Holders}
 use Rattle.promises.specs.Written.{changedHolders}
 

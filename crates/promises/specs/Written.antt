@@ -10,8 +10,8 @@ use Rattle.words.specs.Params.{paramsOk}
 use Rattle.words.specs.Word.{allInWidth}
 use Rattle.words.specs.declared.Params.{Params}
 use Rattle.galois.specs.Element.{Element}
+use Rattle.comparison.specs.Comparison.{apart}
 use Rattle.codewords.specs.Codeword.{Polynomial, when}
-use Rattle.codewords.specs.Comparison.{apart}
 use Rattle.sharing.specs.Dealing.{dealing, dealt}
 use Rattle.sharing.specs.Dealt.{Dealable, Job}
 use Rattle.sharing.specs.Opening.{risingTo}

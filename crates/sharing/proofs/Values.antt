@@ -11,12 +11,12 @@ use lib.Seq.{take-at, drop-at}
 use borrow.Author.Tests.{leb-true, ltb-true}
 use Rattle.words.proofs.Tests.{and-left, and-right}
 use Rattle.galois.specs.Element.{Element, sum, product, lower, point}
-use Rattle.codewords.specs.Comparison.{apart}
-use Rattle.codewords.proofs.Compared.{apart-not}
 use Rattle.galois.proofs.Lists.{product-comm}
 use Rattle.galois.proofs.Table.{length-lower}
 use Rattle.galois.proofs.Points.{length-point}
 use Rattle.polynomial.specs.Polynomial.{Polynomial, value}
+use Rattle.comparison.specs.Comparison.{apart}
+use Rattle.comparison.proofs.Compared.{apart-not}
 use Rattle.codewords.specs.Codeword.{Share, when, differs, errorSet}
 use Rattle.codewords.proofs.Value.{Rows}
 use Rattle.codewords.specs.Linear.{sums, multiple}

@@ -4,8 +4,8 @@ use Prim.Native.Nat.{ℕ, zero, suc, _+_, _-_, _*_, _^_}
 use mathlib.Core.List.{List, [], _∷_, _++_}
 use lib.ListN.{take, drop}
 use Rattle.galois.specs.Element.{Element}
+use Rattle.comparison.specs.Comparison.{apart}
 use Rattle.codewords.specs.Codeword.{Share, when}
-use Rattle.codewords.specs.Comparison.{apart}
 
 -- of the shares of all holders, one after another, those of the holders hs
 unfoldable pub ofHolders : ℕ → List ℕ → List ℕ → List ℕ

@@ -11,7 +11,7 @@ use Rattle.codewords.specs.Codeword.{Share}
 use Rattle.codewords.specs.Opening.{Opening, wrongInto, lowestInto, lowestRoom}
 use Rattle.codewords.proofs.Opening.{Handed, handed}
 use Rattle.level.specs.Shares.{sharesOf}
-use Rattle.decoder.proofs.Rows.{zero-shaped}
+use Rattle.rounds.proofs.Rows.{zero-shaped}
 use Rattle.records.specs.declared.Heading.{Heading}
 use Rattle.bundle.specs.Bundle.{bundleFault, bundleHeading, filesOf}
 use Rattle.bundle.specs.declared.Accepted.{Accepted}

@@ -12,9 +12,9 @@ use Rattle.polynomial.specs.Polynomial.{value}
 use Rattle.polynomial.specs.Rows.{coefs}
 use Rattle.polynomial.proofs.OverRing.{value-length}
 use Rattle.polynomial.proofs.Shape.{shaped-all}
+use Rattle.comparison.specs.Comparison.{compared, positionOf}
+use Rattle.comparison.proofs.Compared.{compared-held}
 use Rattle.codewords.specs.Codeword.{comparison}
-use Rattle.codewords.specs.Comparison.{compared, positionOf}
-use Rattle.codewords.proofs.Compared.{compared-held}
 use Rattle.decoder.proofs.position_by.Statement.{statement}
 use Rattle.decoder.proofs.position_by.Tie as tie
 

@@ -14,8 +14,8 @@ use Rattle.codewords.proofs.Without.{setOf}
 use Rattle.codewords.proofs.Wide.{wide-tally}
 use Rattle.level.specs.Shares.{sharesFrom, sharesOf}
 use Rattle.level.proofs.Shares.{from-end, sized-at}
-use Rattle.decoder.proofs.Collected.{set-start, holder-low, holder-high, set-same, set-more}
-use Rattle.decoder.proofs.Lowest.{sixBits, width-six}
+use Rattle.rounds.proofs.Collected.{set-start, holder-low, holder-high, set-same, set-more}
+use Rattle.rounds.proofs.Lowest.{sixBits, width-six}
 use Rattle.decoder.proofs.wide_by.Statement.{statement}
 use Rattle.decoder.proofs.wide_by.Tie as tie
 

@@ -9,7 +9,7 @@ use denote.Ref.{now}
 use Rattle.polynomial.specs.Rows.{Rows, coefs}
 use Rattle.codewords.specs.Codeword.{Polynomial, positions}
 use Rattle.codewords.proofs.Positions.{positions-length, positions-bytes}
-use Rattle.decoder.proofs.Rows.{zero-shaped}
+use Rattle.rounds.proofs.Rows.{zero-shaped}
 use Rattle.text.specs.Text.{openLine, declinedLine, readings}
 use Rattle.text.proofs.Written.{wrote-line}
 use Rattle.text.proofs.Lines.{open-length, declined-length}

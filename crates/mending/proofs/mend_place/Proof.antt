@@ -5,7 +5,7 @@ use Prim.Native.Nat.{ℕ}
 use denote.Ref.{now}
 use Rattle.polynomial.specs.Rows.{Rows}
 use Rattle.codewords.proofs.Opening.{handed}
-use Rattle.decoder.proofs.Rows.{zero-shaped}
+use Rattle.rounds.proofs.Rows.{zero-shaped}
 use Rattle.archive.specs.Archive.{sharesAt, placeOpening}
 use Rattle.mending.proofs.mend_place.Statement.{statement}
 use Rattle.mending.proofs.mend_place.Tie as tie

@@ -9,7 +9,7 @@ use Rattle.codewords.specs.Opening.{Opening, declines, answerTo}
 use Rattle.codewords.proofs.Opening.{Handed, handed}
 use Rattle.level.specs.Shares.{sharesOf}
 use Rattle.decoder.specs.Decoded.{Ordered}
-use Rattle.decoder.proofs.Rows.{zero-shaped}
+use Rattle.rounds.proofs.Rows.{zero-shaped}
 use Rattle.sharing.specs.Clear.{LentClear}
 use Rattle.sharing.specs.Opening.{lent, lentFault, opening}
 use Rattle.sharing.proofs.Faults.{few-holders}
