@@ -293,10 +293,11 @@ pub fn decode(
 
 // Nobody has a position yet.
 fn clear_positions(lowest: &mut [u8])
-    ensures { λ _. ⌜ now (lowest .exit) ≡ replicate (length (now (lowest .entry))) 255 ⌝ }
+    requires { ⌜ length (now lowest) ≡ lowestRoom ⌝ }
+    ensures { λ _. ⌜ now (lowest .exit) ≡ replicate lowestRoom 255 ⌝ }
 {
-    let mut i = 0;
-    while i < lowest.len() {
+    let mut i: usize = 0;
+    while i < 64 {
         lowest[i] = comparison::NONE;
         i += 1;
     }

@@ -3,7 +3,7 @@
 use mathlib.Core.Path.{_≡_, refl, sym, _∙_, ap, ap₂}
 use mathlib.Core.List.{List, [], _∷_, _++_, map}
 use Prim.Native.Nat.{ℕ, zero, suc, _+_, _≤_, _<_}
-use native.Mathlib.Nat.{mod-eq-of-lt, zero-add}
+use native.Mathlib.Nat.{mod-eq-of-lt, zero-add, le-of-suc-le-suc}
 use native.Mathlib.Numerals.{add-one}
 use native.Mathlib.Omega.{arith}
 use lib.ListN.{length, take, getD, set, replicate, length-map, List·getD-map, getD-replicate, replicate-append-replicate}
@@ -136,3 +136,9 @@ module _ (k : ℕ) where
 pub zero-shaped : Shaped (replicate 64 zeroRow)
 unfolding Shaped
 zero-shaped = refl
+
+-- and the first rows of them
+pub zero-rows : (n m : ℕ) → n ≤ m → take n (replicate m zeroRow) ≡ replicate n zeroRow
+zero-rows zero m h = refl
+zero-rows (suc n) zero h = absurd (omega arith)
+zero-rows (suc n) (suc m) h = ap (λ (l : Rows). zeroRow ∷ l) (zero-rows n m (le-of-suc-le-suc h))

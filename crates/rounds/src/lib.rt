@@ -61,7 +61,7 @@ fn reduce_rows(k: u64, t: usize, q: &mut [[u64; 6]; 64])
     }
 }
 
-// The polynomial through the first t + 1 shares, in q; nodal is room to work in.
+// The polynomial through the first t + 1 shares, in q, whose first t + 2 rows are zero; nodal is room to work in.
 fn interpolate(
     k: u64,
     d: usize,
@@ -73,12 +73,11 @@ fn interpolate(
 )
     requires { ⌜ ((1 ≤ k) × (k ≤ 64)) × ((2 ≤ d) × (d ≤ 6)) × (t ≤ 62)
         × Holders d (sharesOf d (suc t) (now hs) (now ys)) × InWidth k d (sharesOf d (suc t) (now hs) (now ys))
-        × Shaped (now q) × Shaped (now nodal) ⌝ }
+        × Shaped (now q) × (take (t + 2) (now q) ≡ replicate (t + 2) (replicate 6 0)) × Shaped (now nodal) ⌝ }
     ensures { λ _. ⌜ Through k d t (sharesOf d (suc t) (now (hs .entry)) (now (ys .entry))) (now (q .exit))
         × Shaped (now (q .exit)) × Shaped (now (nodal .exit)) ⌝ }
 {
     // Zero and one, where interpolation starts: the first t + 2 rows of each, all that it looks at.
-    clear_rows(t + 2, q);
     clear_rows(t + 2, nodal);
     nodal[0] = [1, 0, 0, 0, 0, 0];
     let mut i = t + 1;

@@ -53,7 +53,7 @@ named l h =
 
 -- at first nobody has a position
 cleared : (c : tie.After-clear-positions Inv-loop μ-loop) → c .clear-positions .last .0 ≡ replicate 64 255
-cleared c = c .clear-positions .ensures ∙ ap (λ n. replicate n 255) (c .before .before .before .pre .4)
+cleared c = c .clear-positions .ensures
 
 returns : tie.Need-returns Inv-loop μ-loop
 returns c =

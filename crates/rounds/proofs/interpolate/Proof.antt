@@ -21,22 +21,21 @@ abbrev μ-loop : tie.MeasureT-loop
 
 loop-holds : tie.Need-loop-holds Inv-loop μ-loop
 loop-holds c =
-    let q = c .before .before in
-    let a = q .before .before .args in
-    let n = c .clear-rows2 .last .1 .0 in
-    let eq = q .clear-rows .ensures in
-    let en = c .clear-rows2 .ensures in (
+    let s = c .before .before in
+    let a = s .args in
+    let n = c .clear-rows .last .1 .0 in
+    let e = c .clear-rows .ensures in (
       omega arith,
-      eq .1,
-      shaped-set n 0 oneRow (en .1) (omega arith) refl,
-      λ h dl dh. interpolate-start (a .k) (a .d) h dl dh (a .t) (a .hs .now) (a .ys .now) (q .clear-rows .last .1 .0) (set n 0 oneRow) (eq .0)
-          (clear-one n (a .t) (en .0)),
+      s .pre .5,
+      shaped-set n 0 oneRow (e .1) (omega arith) refl,
+      λ h dl dh. interpolate-start (a .k) (a .d) h dl dh (a .t) (a .hs .now) (a .ys .now) (a .q .now) (set n 0 oneRow) (s .pre .6)
+          (clear-one n (a .t) (e .0)),
     )
 
 loop-again : tie.Need-loop-again Inv-loop μ-loop
 loop-again c =
     let l = c .before .before .before .before .before .before in
-    let s = l .before .before .before .before .before in
+    let s = l .before .before .before in
     let a = s .args in
     let w = all-map (λ x w. w .0) (sharesOf (a .d) (suc (a .t)) (a .hs .now) (a .ys .now)) (s .pre .4) in
     let e = c .extend .ensures in (
@@ -50,7 +49,7 @@ loop-again c =
 returns : tie.Need-returns Inv-loop μ-loop
 returns c =
     let l = c .before .before .before in
-    let s = l .before .before .before .before .before in
+    let s = l .before .before .before in
     let a = s .args in
     let p = s .pre in
     let e = c .reduce-rows .ensures in (
@@ -66,8 +65,6 @@ interpolate-spec =
     (tie.spec
     Inv-loop
     μ-loop
-    (λ c. search needs)
-    (λ c κs. search needs)
     (λ c. search needs)
     (λ c κs. search needs)
     (λ c. search needs)

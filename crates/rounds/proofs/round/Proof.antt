@@ -3,7 +3,7 @@ use borrow.Author.Needs.{needs}
 use native.Mathlib.Omega.{arith}
 use mathlib.Core.Path.{_≡_, ap}
 use mathlib.Core.List.{List, map}
-use Prim.Native.Nat.{ℕ, suc}
+use Prim.Native.Nat.{ℕ, suc, _+_}
 use native.Mathlib.Numerals.{add-one}
 use lib.ListN.{take}
 use Rattle.algebra.proofs.Shares.{all-take}
@@ -13,7 +13,7 @@ use Rattle.codewords.specs.WellFormed.{Holders, InWidth}
 use Rattle.codewords.proofs.Without.{holders-take}
 use Rattle.level.specs.Shares.{sharesOf}
 use Rattle.rounds.proofs.Arrays.{take-of}
-use Rattle.rounds.proofs.Rows.{zero-shaped}
+use Rattle.rounds.proofs.Rows.{zero-shaped, zero-rows}
 use Rattle.rounds.proofs.round.Statement.{statement}
 use Rattle.rounds.proofs.round.Tie as tie
 
@@ -32,7 +32,7 @@ interpolate-requires c κs =
     let n = suc (a .t) in
     let h : Holders (a .d) (sharesOf (a .d) n (a .hs .now) (a .ys .now)) = rw (← first s) (holders-take (a .d) n (whole s) (p .5)) in
     let w : InWidth (a .k) (a .d) (sharesOf (a .d) n (a .hs .now) (a .ys .now)) = rw (← first s) (all-take (λ x y. y) n (whole s) (p .6)) in
-    (p .0, p .1, p .2, h, w, zero-shaped, p .7)
+    (p .0, p .1, p .2, h, w, zero-shaped, zero-rows (a .t + 2) 64 (omega (arith, p .2)), p .7)
 
 decode-level-requires : tie.Need-decode-level-requires
 decode-level-requires c κs =
