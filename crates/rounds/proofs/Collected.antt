@@ -1,9 +1,9 @@
--- A loop over shares, from the last on, that collects in a set the holders whose shares pass a test: where it starts, and a turn for a share that
--- passes and for one that does not. Assumes nothing.
-use mathlib.Core.Path.{_≡_, refl, _∙_}
+-- A loop over shares, from the last on, that collects in a set the holders whose shares pass a test: where it starts, a turn for a share that passes
+-- and for one that does not, and where it may end, if those before do not pass. Assumes nothing.
+use mathlib.Core.Path.{_≡_, refl, _∙_, ap}
 use mathlib.Core.Bool.{Bool, true, false}
 use mathlib.Core.List.{List, _∷_}
-use Prim.Native.Nat.{ℕ, suc, _-_, _*_, _/_, _%_, _^_, _≤_, _<_}
+use Prim.Native.Nat.{ℕ, zero, suc, _-_, _*_, _/_, _%_, _^_, _≤_, _<_}
 use native.Mathlib.Nat.{one-mul, mod-eq-of-lt, pow-le-pow-right}
 use native.Mathlib.Omega.{arith}
 use lib.Bits.{bitOr}
@@ -51,3 +51,9 @@ module _ (d : ℕ) (dh : d ≤ 6) (b : Share → Bool) (m : ℕ) (hs : List ℕ)
         let n : suc j ≡ getD hs (i - 1) 0 = omega (arith, holder-low) in
         let z : w / 2 ^ j % 2 ≡ 0 = rw q (set-clear b ss j (all-map (λ s x. x .0) ss (next .0 .1)) (next .1 .1) (rw n (next .1 .0))) in
         rw (f, or-new w j z, from-next d hs ys i m h l, e, q) (omega arith)
+
+  pub set-all : (i : ℕ) → i ≤ m → ((j : ℕ) → j < i → b (shareAt d hs ys j) ≡ false) → setFrom i ≡ setFrom 0
+  set-all zero l f = refl
+  set-all (suc i) l f =
+      let e : suc i - 1 ≡ i = omega arith in
+      set-same (suc i) (omega arith) l (f (suc i - 1) (omega arith)) ∙ ap setFrom e ∙ set-all i (omega arith) (λ j h. f j (omega arith))

@@ -1,14 +1,15 @@
--- Shares compared with zero, one by one: which of them are not zero, by their bits, and a turn of the loop that collects these; and where they are
--- what a polynomial leaves of shares, that these are the ones that differ from it (`left-set`). Assumes nothing.
+-- Shares compared with zero, one by one: which of them are not zero, by their bits, a turn of the loop that collects these, and that rows of zeros add
+-- nothing (`zero-same`, `bits-all`); and where they are what a polynomial leaves of shares, that these are the ones that differ from it (`left-set`).
+-- Assumes nothing.
 use mathlib.Core.Path.{_≡_, refl, sym, _∙_, ap, ap₂}
 use mathlib.Core.Bool.{true, false}
 use mathlib.Core.List.{List, [], _∷_, map}
-use Prim.Native.Nat.{ℕ, _+_, _-_, _^_, _≤_, _<_}
+use Prim.Native.Nat.{ℕ, zero, suc, _+_, _-_, _^_, _≤_, _<_}
 use native.Mathlib.Nat.{le-of-eq}
 use native.Mathlib.Omega.{arith}
-use lib.Bits.{bitOr}
-use lib.ListN.{length, take, getD, length-replicate}
-use lib.Seq.{take-all}
+use lib.Bits.{bitOr, or-zero-r}
+use lib.ListN.{length, take, getD, replicate, length-replicate, getD-replicate}
+use lib.Seq.{take-all, getD-take}
 use Rattle.words.proofs.Tests.{bool-cases}
 use Rattle.algebra.specs.Shares.{All}
 use Rattle.galois.specs.Element.{Element, zeroE, held}
@@ -95,3 +96,21 @@ module _ (m : ℕ) (hs : List ℕ) (ys : Rows) where
   pub bits-more : (i : ℕ) → 0 < i → i ≤ m → (b w : ℕ) → b ≡ bitsOf (take 6 (getD ys (i - 1) [])) → w ≡ bitsFrom i → bitOr w b ≡ bitsFrom (i - 1)
   unfolding bitsOfAll
   bits-more i h l b w eb ew = rw (from-next 6 hs ys i m h l, eb, ew)
+
+-- the first n rows are zero: none of these shares differs, and they have no bits
+module _ (n m : ℕ) (h : n ≤ m) (hs : List ℕ) (ys : Rows) (z : take n ys ≡ replicate n (zeroE 6)) where
+  zero-row : (i : ℕ) → i < n → (length (take 6 (getD ys i [])) ≡ 6) × (bitsOf (take 6 (getD ys i [])) ≡ 0)
+  zero-row i l =
+      let e : getD ys i [] ≡ zeroE 6 = sym (getD-take n ys i [] l) ∙ ap (λ (r : Rows). getD r i []) z ∙ getD-replicate n i (zeroE 6) [] l in
+      (ap (λ (w : Element). length (take 6 w)) e, ap (λ (w : Element). bitsOf (take 6 w)) e ∙ zero-bits 6)
+
+  pub zero-same : (i : ℕ) → i < n → differs 64 6 [] (shareAt 6 hs ys i) ≡ false
+  zero-same i l = let w = zero-row i l in differs-false (shareAt 6 hs ys i) (w .0) (w .1)
+
+  pub bits-all : (i : ℕ) → i ≤ n → bitsFrom m hs ys i ≡ bitsFrom m hs ys 0
+  bits-all zero l = refl
+  bits-all (suc i) l =
+      let e : suc i - 1 ≡ i = omega arith in
+      sym (or-zero-r (bitsFrom m hs ys (suc i)))
+      ∙ bits-more m hs ys (suc i) (omega arith) (omega arith) 0 (bitsFrom m hs ys (suc i)) (sym (zero-row (suc i - 1) (omega arith) .1)) refl
+      ∙ ap (bitsFrom m hs ys) e ∙ bits-all i (omega arith)

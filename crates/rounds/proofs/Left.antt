@@ -1,13 +1,13 @@
 -- A level's rows of what the polynomial leaves of the shares: as shares under the same holders, of d words and of six (`Left`); that the ones
 -- that are not zero are those that differ from the polynomial; and that the array's rows are still of six words. Assumes nothing.
 use mathlib.Core.Path.{_≡_, _∙_, ap}
-use mathlib.Core.List.{List, [], map}
+use mathlib.Core.List.{List, [], _++_, map}
 use Prim.Native.Nat.{ℕ, suc, _^_, _≤_, _<_}
 use native.Mathlib.Nat.{pow-le-pow-right, le-of-eq}
 use native.Mathlib.Decide.{decLe}
 use native.Mathlib.Omega.{arith}
-use lib.ListN.{length, take, getD, replicate}
-use lib.Seq.{take-all}
+use lib.ListN.{length, take, drop, getD, replicate, length-append}
+use lib.Seq.{take-all, take-append-le, length-take-le}
 use Rattle.algebra.proofs.Shares.{all-map}
 use Rattle.galois.specs.Element.{zeroE, held}
 use Rattle.galois.proofs.Held.{held-length}
@@ -19,7 +19,7 @@ use Rattle.codewords.specs.WellFormed.{InWidth, Holders}
 use Rattle.codewords.proofs.Value.{rows-of}
 use Rattle.codewords.proofs.Residue.{residue-element}
 use Rattle.codewords.proofs.Without.{all-reword, holders-reword}
-use Rattle.level.specs.Shares.{shareAt, sharesOf, Sized, residueRows}
+use Rattle.level.specs.Shares.{shareAt, sharesOf, Sized, residueRow, residueRows}
 use Rattle.level.proofs.Shares.{sized-at}
 use Rattle.level.proofs.ResidueRows.{rest-row, rest-shares, rest-last, rest-length}
 use Rattle.rounds.specs.Residues.{Through, bitsOfAll}
@@ -30,6 +30,7 @@ use Rattle.rounds.proofs.Rows.{shaped-rows}
 -- as much as a level needs of them
 pub record Left (k d t m : ℕ) (p : Polynomial) (hs : List ℕ) (ys r : Rows) : Type 0 where
   pub shaped : Shaped r
+  pub first : take (suc t) r ≡ replicate (suc t) (zeroE 6)
   pub holders-six : Holders 6 (sharesOf 6 m hs r)
   pub set : errorSet 64 6 [] (sharesOf 6 m hs r) ≡ errorSet k d p (sharesOf d m hs ys)
   pub bits : bitsOfAll (sharesOf 6 m hs r) ≡ bitsOfAll (map (left k d p) (sharesOf d m hs ys))
@@ -78,6 +79,17 @@ module _ (k d t m : ℕ) (dl : 2 ≤ d) (dh : d ≤ 6) (hs : List ℕ) (ys q old
       six i h (yes l) = ap length (rest-last k d P (suc t) m hs ys old tm mo r er i l) ∙ shaped-row old i so h
       six i h (no l) = let b : i < m = omega arith in ap length (row-at i b) ∙ long-row i b
 
+  -- nothing is left of the first
+  first-zero : take (suc t) r ≡ replicate (suc t) (zeroE 6)
+  first-zero =
+      let rows = map (residueRow k d P) (drop (suc t) ss) in
+      let l : suc t ≤ length (take (suc t) old) = rw (length-take-le (suc t) old (omega (arith, mo))) (omega arith) in
+      ap (take (suc t)) er
+      ∙ take-append-le (suc t) (take (suc t) old ++ rows) (drop (length ss) old) (rw (length-append (take (suc t) old) rows) (omega (arith, l)))
+      ∙ take-append-le (suc t) (take (suc t) old) rows l
+      ∙ take-all (suc t) (take (suc t) old) (omega (arith, length-take-le (suc t) old (omega (arith, mo))))
+      ∙ fo
+
   is-left : sharesOf d m hs r ≡ map (left k d P) ss
   is-left = rest-shares k d P (suc t) m hs ys old tm mo r er dl dh t (th .0) words fo (th .1)
 
@@ -90,6 +102,7 @@ module _ (k d t m : ℕ) (dl : 2 ≤ d) (dh : d ≤ 6) (hs : List ℕ) (ys q old
   rest-left =
       record {
         shaped = shaped-left;
+        first = first-zero;
         holders-six = rw is-six (holders-reword (λ s. held d (residue k d P s)) 6 ss holders-in-six);
         set = ap (errorSet 64 6 []) is-six ∙ left-set d dl dh k t P (th .0) ss w;
         bits = ap bitsOfAll is-six ∙ left-bits d dl dh k t P (th .0) ss w;

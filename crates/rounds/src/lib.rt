@@ -88,16 +88,18 @@ fn interpolate(
     reduce_rows(k, t, q);
 }
 
-// The shares of which something is left: those that differ from zero, the polynomial with no coefficients.
-fn compare(m: usize, hs: &[u64; 63], rest: &[[u64; 6]; 64]) -> Differing
-    requires { ⌜ (m ≤ 63) × Holders 6 (sharesOf 6 m (now hs) (now rest)) × Shaped (now rest) ⌝ }
+// The shares of which something is left: those that differ from zero, the polynomial with no coefficients. Nothing is left of the first n, which
+// are not looked at.
+fn compare(n: usize, m: usize, hs: &[u64; 63], rest: &[[u64; 6]; 64]) -> Differing
+    requires { ⌜ (n ≤ m) × (m ≤ 63) × Holders 6 (sharesOf 6 m (now hs) (now rest)) × Shaped (now rest)
+        × (take n (now rest) ≡ replicate n (replicate 6 0)) ⌝ }
     ensures { λ r. ⌜ (r .set ≡ errorSet 64 6 [] (sharesOf 6 m (now (hs .entry)) (now (rest .entry))))
         × (r .bits ≡ bitsOfAll (sharesOf 6 m (now (hs .entry)) (now (rest .entry)))) ⌝ }
 {
     let mut set: u64 = 0;
     let mut bits: u64 = 0;
     let mut i = m;
-    while 0 < i {
+    while n < i {
         i -= 1;
         let b = comparison::gap(rest[i], [0; 6]);
         bits = bits | b;
@@ -130,7 +132,7 @@ fn decode_level(
     ensures rest { λ _. ⌜ Shaped (now (rest .exit)) ⌝ }
 {
     level::residues(k, d, p, t, m, hs, ys, rest);
-    let c = compare(m, hs, rest);
+    let c = compare(t + 1, m, hs, rest);
     if u64::count_ones(c.set) as u64 <= e {
         return Found::Wrong(c.set, true);
     }

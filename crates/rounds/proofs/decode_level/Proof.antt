@@ -5,6 +5,7 @@ use native.Mathlib.Omega.{arith}
 use mathlib.Core.Path.{_≡_, _∙_, ap}
 use mathlib.Core.List.{List, map}
 use Prim.Native.Nat.{suc, _<_}
+use native.Mathlib.Numerals.{add-one}
 use lib.Count.{ones, ones-le, trailingZeros, trailing-le}
 use Rattle.polynomial.specs.Polynomial.{Polynomial}
 use Rattle.polynomial.specs.Rows.{Rows, coefs}
@@ -50,7 +51,9 @@ left-of c =
 compare-requires : tie.Need-compare-requires
 compare-requires c κs =
     let b = c .before in
-    (b .before .before .pre .3, left-of b .holders-six, left-of b .shaped)
+    let p = b .before .before .pre in
+    let o = left-of b in
+    (omega (arith, p .4), p .3, o .holders-six, o .shaped, rw (add-one (b .before .before .args .t)) (o .first))
 
 -- once they are compared with zero
 abbrev start : tie.After-compare → tie.Start
@@ -150,6 +153,7 @@ decode-level-spec =
     tie.close
     (tie.spec
     residues-requires
+    (λ c. search needs)
     compare-requires
     cast-if1
     returns
