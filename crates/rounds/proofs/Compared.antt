@@ -1,6 +1,6 @@
--- Shares compared with zero, one by one: which of them are not zero, by their bits, a turn of the loop that collects these, and that rows of zeros add
--- nothing (`zero-same`, `bits-all`); and where they are what a polynomial leaves of shares, that these are the ones that differ from it (`left-set`).
--- Assumes nothing.
+-- Shares compared with zero, one by one: which of them are not zero, by their bits, a turn of the loop that collects these, and that rows of zeros
+-- add nothing (`zero-same`, `bits-all`); and where they are what a polynomial leaves of shares, that these are the ones that differ from it
+-- (`left-set`). Assumes nothing.
 use mathlib.Core.Path.{_≡_, refl, sym, _∙_, ap, ap₂}
 use mathlib.Core.Bool.{true, false}
 use mathlib.Core.List.{List, [], _∷_, map}

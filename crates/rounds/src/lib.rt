@@ -77,7 +77,7 @@ fn interpolate(
     ensures { λ _. ⌜ Through k d t (sharesOf d (suc t) (now (hs .entry)) (now (ys .entry))) (now (q .exit))
         × Shaped (now (q .exit)) × Shaped (now (nodal .exit)) ⌝ }
 {
-    // Zero and one, where interpolation starts: the first t + 2 rows of each, all that it looks at.
+    // Interpolation starts from zero, which q is, and one: the first t + 2 rows of each, all that it looks at.
     clear_rows(t + 2, nodal);
     nodal[0] = [1, 0, 0, 0, 0, 0];
     let mut i = t + 1;

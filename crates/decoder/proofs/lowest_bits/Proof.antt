@@ -4,7 +4,7 @@ use native.Mathlib.Omega.{arith}
 use mathlib.Core.Path.{_≡_, refl, sym, _∙_, ap}
 use mathlib.Core.List.{List}
 use Prim.Native.Nat.{ℕ, suc, _-_, _≤_, _<_}
-use lib.ListN.{length, getD, replicate, length-replicate, length-set}
+use lib.ListN.{length, getD, length-replicate, length-set}
 use Rattle.words.proofs.InRange.{InRange, ok-range}
 use Rattle.polynomial.specs.Rows.{coefs}
 use Rattle.codewords.specs.Codeword.{Share, Polynomial, positions}
@@ -51,25 +51,22 @@ named l h =
     holder-in (a .p .d) (range s .d-high) (a .p .k) (poly s) (a .m) (a .holders .now) (a .shares .now) (holders s) (a .wrong) (s .pre .5) (l .loop .i) h
     (l .loop .inv .0)
 
--- at first nobody has a position
-cleared : (c : tie.After-clear-positions Inv-loop μ-loop) → c .clear-positions .last .0 ≡ replicate 64 255
-cleared c = c .clear-positions .ensures
-
 returns : tie.Need-returns Inv-loop μ-loop
 returns c =
     let s = c .before .before .before .before .before .before in
     let a = s .args in
-    cleared (c .before .before .before)
+    c .before .before .before .clear-positions .ensures
     ∙ nobody (a .p .d) (range s .d-high) (a .p .k) (poly s) (a .m) (a .holders .now) (a .shares .now) (holders s) (a .wrong) (s .pre .5) (c .if1 .taken)
 
 loop-holds : tie.Need-loop-holds Inv-loop μ-loop
 loop-holds c =
     let f = c .before .before .before in
+    let e = f .clear-positions .ensures in
     let s = f .before .before .before in
     let a = s .args in (
       omega arith,
-      ap length (cleared f) ∙ length-replicate {A = ℕ} 64 255,
-      cleared f ∙ positions-start (a .p .d) (range s .d-high) (a .p .k) (poly s) (a .m) (a .holders .now) (a .shares .now) (holders s) (a .wrong) (s .pre .5),
+      ap length e ∙ length-replicate {A = ℕ} 64 255,
+      e ∙ positions-start (a .p .d) (range s .d-high) (a .p .k) (poly s) (a .m) (a .holders .now) (a .shares .now) (holders s) (a .wrong) (s .pre .5),
     )
 
 sub-if2 : tie.Need-sub-if2 Inv-loop μ-loop

@@ -56,14 +56,16 @@ loop-holds c =
 sub-set : tie.Need-sub-set Inv-loop μ-loop
 sub-set c =
     let l = c .before .before .before .before .before in
-    let a = l .before .args in
-    omega (arith, holder-low 6 most (differs 64 6 []) (a .m) (a .hs .now) (a .rest .now) (l .before .pre .2) (l .loop .i) (omega arith) (l .loop .inv .1))
+    let s = l .before in
+    let a = s .args in
+    omega (arith, holder-low 6 most (differs 64 6 []) (a .m) (a .hs .now) (a .rest .now) (s .pre .2) (l .loop .i) (omega arith) (l .loop .inv .1))
 
 shl-set : tie.Need-shl-set Inv-loop μ-loop
 shl-set c =
     let l = c .before .before .before .before .before in
-    let a = l .before .args in
-    omega (arith, holder-high 6 most (differs 64 6 []) (a .m) (a .hs .now) (a .rest .now) (l .before .pre .2) (l .loop .i) (omega arith) (l .loop .inv .1))
+    let s = l .before in
+    let a = s .args in
+    omega (arith, holder-high 6 most (differs 64 6 []) (a .m) (a .hs .now) (a .rest .now) (s .pre .2) (l .loop .i) (omega arith) (l .loop .inv .1))
 
 loop-again : tie.Need-loop-again Inv-loop μ-loop
 loop-again c =
