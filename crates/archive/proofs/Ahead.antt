@@ -90,7 +90,7 @@ module _ (bs : List ℕ) (n w l c : ℕ) where
     pub lowest-output : l ≡ lowestRoom
     pub rest : c ≡ 0
 
-  passed : openingFault bs n w l c ≡ 0 → Passed
+  pub passed : openingFault bs n w l c ≡ 0 → Passed
   unfolding openingFault
   passed e =
       let outputs = outputsFault (paramsOf bs .d) n w l in

@@ -39,7 +39,7 @@ module _ (bs : List ℕ) (p n w lo : ℕ) where
   abbrev place-fault : ℕ
   place-fault = openingFault bs n w lo (placeFault (bundleHeading bs) p)
 
-  place-ahead : Ahead (paramsOf bs) (sharesAt bs p) (PlaceClear bs p n w lo) place-fault
+  pub place-ahead : Ahead (paramsOf bs) (sharesAt bs p) (PlaceClear bs p n w lo) place-fault
   unfolding placeFault
   place-ahead =
       ahead-of bs n w lo (placeFault (bundleHeading bs) p) (λ f. wordsOf bs f p)

@@ -12,11 +12,13 @@ ghost use Rattle.codewords.specs.WellFormed.{InWidth};
 ghost use Rattle.level.specs.Shares.{sharesOf, Sized};
 ghost use Rattle.bundle.specs.Bundle.{bundleFault, bundleHeading, filesOf, paramsOf, holderOf};
 ghost use Rattle.bundle.specs.Contents.{wordsOf};
+ghost use Rattle.fetch.specs.Fetch.{placeFault};
 ghost use Rattle.totals.specs.Total.{runTotal};
 ghost use Rattle.totals.specs.Values.{valuesFrom};
 ghost use Rattle.archive.specs.Archive.{sharesAt, sharesOver, filesInWidth, placeOpening, runOpening};
-ghost use Rattle.archive.specs.Archive.{outputsFault, openPlace, openRun};
+ghost use Rattle.archive.specs.Archive.{outputsFault, openingFault, openPlace, openRun};
 ghost use Rattle.archive.specs.Loaded.{holdersIn, sharesIn, openingOf, placeInWidth};
+use bundle::Accepted;
 use decoder::Opened;
 use records::Heading;
 
@@ -173,6 +175,60 @@ fn outputs_fault(h: Heading, n: usize, w: usize, l: usize) -> u8
     )
 }
 
+// What is refused ahead of opening the job at a place, for outputs of n and of w words and of l bytes; where nothing is, the heading and the files.
+pub fn accept_place(bytes: &[u8], place: usize, n: usize, w: usize, l: usize) -> Accepted
+    ensures { λ r. ⌜ (r .fault ≡ openingFault (now (bytes .entry)) n w l (placeFault (bundleHeading (now (bytes .entry))) place))
+        × (r .fault ≡ 0 → (r .heading ≡ bundleHeading (now (bytes .entry))) × (r .files ≡ filesOf (now (bytes .entry)))) ⌝ }
+{
+    let accepted = bundle::accept(bytes);
+    if accepted.fault != 0 {
+        return accepted;
+    }
+    let h = accepted.heading;
+    Accepted {
+        fault: words::first(outputs_fault(h, n, w, l), fetch::place_fault(h, place)),
+        files: accepted.files,
+        heading: h,
+    }
+}
+
+// Opens the job at a place where nothing is refused ahead of that, into the three outputs of `open_place`.
+pub fn open_accepted(
+    bytes: &[u8],
+    h: Heading,
+    files: usize,
+    place: usize,
+    out: &mut [u64],
+    wrong: &mut [u64],
+    lowest: &mut [u8],
+) -> u8
+    requires { ⌜ (openingFault (now bytes) (length (now out)) (length (now wrong)) (length (now lowest))
+        (placeFault (bundleHeading (now bytes)) place) ≡ 0)
+        × (h ≡ bundleHeading (now bytes)) × (files ≡ filesOf (now bytes)) ⌝ }
+    ensures fault { λ r. ⌜ r ≡ faultOf (placeOpening (now (bytes .entry)) place) ⌝ }
+    ensures out { λ _. ⌜ now (out .exit) ≡ secretInto (now (out .entry)) (placeOpening (now (bytes .entry)) place) ⌝ }
+    ensures wrong { λ _. ⌜ now (wrong .exit) ≡ wrongInto (paramsOf (now (bytes .entry)) .k) (paramsOf (now (bytes .entry)) .d)
+        (sharesAt (now (bytes .entry)) place) (now (wrong .entry)) (placeOpening (now (bytes .entry)) place) ⌝ }
+    ensures lowest { λ _. ⌜ now (lowest .exit) ≡ lowestInto (paramsOf (now (bytes .entry)) .k) (paramsOf (now (bytes .entry)) .d)
+        (sharesAt (now (bytes .entry)) place) (now (lowest .entry)) (placeOpening (now (bytes .entry)) place) ⌝ }
+{
+    let holders = load_holders(bytes, h, files);
+    let mut shares = [[0u64; 6]; 63];
+    let mut rows = [[0u64; 6]; 64];
+    let opened = place_opening(bytes, h, files, place, &holders, &mut shares, &mut rows);
+    decoder::hand_out(
+        h.params,
+        files,
+        &holders,
+        &shares,
+        opened,
+        &rows,
+        out,
+        wrong,
+        lowest,
+    )
+}
+
 // Opens the job at a place: its words go to the first output, the set of the wrong holders to the second, and the lowest bits at which their shares
 // differ to the third.
 pub fn open_place(
@@ -193,30 +249,15 @@ pub fn open_place(
         (sharesAt (now (bytes .entry)) place) (now (lowest .entry)) (openPlace (now (bytes .entry)) place (length (now (out .entry)))
         (length (now (wrong .entry))) (length (now (lowest .entry)))) ⌝ }
 {
-    let accepted = bundle::accept(bytes);
+    let accepted = accept_place(bytes, place, out.len(), wrong.len(), lowest.len());
     if accepted.fault != 0 {
         return accepted.fault;
     }
-    let h = accepted.heading;
-    let fault = words::first(
-        outputs_fault(h, out.len(), wrong.len(), lowest.len()),
-        fetch::place_fault(h, place),
-    );
-    if fault != 0 {
-        return fault;
-    }
-    let files = accepted.files;
-    let holders = load_holders(bytes, h, files);
-    let mut shares = [[0u64; 6]; 63];
-    let mut rows = [[0u64; 6]; 64];
-    let opened = place_opening(bytes, h, files, place, &holders, &mut shares, &mut rows);
-    decoder::hand_out(
-        h.params,
-        files,
-        &holders,
-        &shares,
-        opened,
-        &rows,
+    open_accepted(
+        bytes,
+        accepted.heading,
+        accepted.files,
+        place,
         out,
         wrong,
         lowest,

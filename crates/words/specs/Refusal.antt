@@ -30,6 +30,10 @@ MISMATCHED = 8
 abbrev pub OUT-OF-RANGE : ℕ
 OUT-OF-RANGE = 9
 
+-- paper 02, K5: "10 desk closed"
+abbrev pub DESK-CLOSED : ℕ
+DESK-CLOSED = 10
+
 -- the first of two faults
 unfoldable pub first : ℕ → ℕ → ℕ
 first zero b = b

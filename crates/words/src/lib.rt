@@ -9,7 +9,7 @@ ghost use Rattle.words.specs.Refusal.{first, unless, kept};
 ghost use Rattle.words.specs.Faults.{paramsFault, lengthFault, widthFault, bitsOk, signedFault};
 ghost use Rattle.words.specs.Signed.{signedOf, twosComplement};
 
-// Why a call declines, by the numbers of paper 01; 0 is no refusal.
+// Why a call declines, by the numbers of papers 01 and 02; 0 is no refusal.
 pub const PARAMETERS: u8 = 1;
 
 pub const LENGTH: u8 = 2;
@@ -27,6 +27,8 @@ pub const MALFORMED: u8 = 7;
 pub const MISMATCHED: u8 = 8;
 
 pub const OUT_OF_RANGE: u8 = 9;
+
+pub const DESK_CLOSED: u8 = 10;
 
 // The parameters of an archive (paper 01: a book): bits of a word, words of an element, holders, degree.
 pub struct Params {
