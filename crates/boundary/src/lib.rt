@@ -22,6 +22,7 @@ ghost use Rattle.archive.specs.Archive.{sharesAt, sharesOver, openPlace, openRu
 ghost use Rattle.listing.specs.Listing.{lineOf, lineFault};
 ghost use Rattle.text.specs.Text.{written};
 ghost use Rattle.mending.specs.Mended.{mended, mendFault};
+ghost use Rattle.desk.specs.Lent.{lentOpening, recordInto, lentStartFault};
 ghost use Rattle.boundary.specs.Boundary.{params};
 use words::Params;
 
@@ -368,4 +369,41 @@ pub extern "C" fn yikes_mend(bytes: &[u8], out: &mut [u8]) -> u8
         × (now (out .exit) ≡ kept (mendFault (now (bytes .entry)) (length (now (out .entry)))) (now (out .entry)) (mended (now (bytes .entry)))) ⌝ }
 {
     mending::mend(bytes, out)
+}
+
+// ---- a desk that limits openings
+
+// A month begins: the allowance q, 0 to 1,000, and a count of zero go to the record, two words.
+#[no_mangle]
+pub extern "C" fn yikes_desk_start(desk: &mut [u64], q: u64) -> u8
+    ensures { λ r. ⌜ (r ≡ lentStartFault (now (desk .entry)) q)
+        × (now (desk .exit) ≡ kept (lentStartFault (now (desk .entry)) q) (now (desk .entry)) (q ∷ 0 ∷ [])) ⌝ }
+{
+    desk::start_lent(desk, q)
+}
+
+// Opens the job at a place as `yikes_open_place` does, where the record's count is below its allowance; one that gives words is counted.
+#[no_mangle]
+pub extern "C" fn yikes_desk_open(
+    desk: &mut [u64],
+    bytes: &[u8],
+    place: usize,
+    out: &mut [u64],
+    wrong: &mut [u64],
+    lowest: &mut [u8],
+) -> u8
+    ensures fault { λ r. ⌜ r ≡ faultOf (lentOpening (now (desk .entry)) (now (bytes .entry)) place (length (now (out .entry)))
+        (length (now (wrong .entry))) (length (now (lowest .entry)))) ⌝ }
+    ensures desk { λ _. ⌜ now (desk .exit) ≡ recordInto (now (desk .entry)) (lentOpening (now (desk .entry)) (now (bytes .entry)) place
+        (length (now (out .entry))) (length (now (wrong .entry))) (length (now (lowest .entry)))) ⌝ }
+    ensures out { λ _. ⌜ now (out .exit) ≡ secretInto (now (out .entry)) (lentOpening (now (desk .entry)) (now (bytes .entry)) place
+        (length (now (out .entry))) (length (now (wrong .entry))) (length (now (lowest .entry)))) ⌝ }
+    ensures wrong { λ _. ⌜ now (wrong .exit) ≡ wrongInto (paramsOf (now (bytes .entry)) .k) (paramsOf (now (bytes .entry)) .d)
+        (sharesAt (now (bytes .entry)) place) (now (wrong .entry)) (lentOpening (now (desk .entry)) (now (bytes .entry)) place
+        (length (now (out .entry))) (length (now (wrong .entry))) (length (now (lowest .entry)))) ⌝ }
+    ensures lowest { λ _. ⌜ now (lowest .exit) ≡ lowestInto (paramsOf (now (bytes .entry)) .k) (paramsOf (now (bytes .entry)) .d)
+        (sharesAt (now (bytes .entry)) place) (now (lowest .entry)) (lentOpening (now (desk .entry)) (now (bytes .entry)) place
+        (length (now (out .entry))) (length (now (wrong .entry))) (length (now (lowest .entry)))) ⌝ }
+{
+    desk::open_lent(desk, bytes, place, out, wrong, lowest)
 }

@@ -1,0 +1,4 @@
+pub mod Desk
+pub mod Lent
+pub mod Clear
+pub mod Runs
