@@ -22,11 +22,12 @@ extern "C" {
 #endif
 
 /* Why a call declines. Where several apply, the order is 1, 2, 4, 7, 3, 5, 6 for the calls on lists. A call on a bundle first reads it all, and
- * its first fault in byte order counts (7, 1, 4, 8); then come 4 for the holder named, 2, 9, 3, 5, 6. Opening one job, from lent shares or at
- * a place, never gives 3: there a share with a word of 2^k or more is present, and wrong. */
+ * its first fault in byte order counts (7, 1, 4, 8); then come 4 for the holder named, 2, 9, 3, 5, 6. A desk's record gives 2 or 1 before the
+ * bundle is read, and 10 after 9 and before 5. Opening one job, from lent shares or at a place, never gives 3: there a share with a word of 2^k
+ * or more is present, and wrong. */
 enum {
     YIKES_OK = 0,
-    YIKES_PARAMETERS = 1,     /* k, d, n, t or the number of jobs is out of its range */
+    YIKES_PARAMETERS = 1,     /* k, d, n, t, the number of jobs or a desk's allowance is out of its range */
     YIKES_LENGTH = 2,         /* a list or an output has not the length that the call needs */
     YIKES_WIDE_WORD = 3,      /* a word that the call uses is 2^k or more, in any call but those that open one job */
     YIKES_HOLDER = 4,         /* a holder is not from 1 to n, holders do not strictly rise, or the holder named has no file in the bundle */
@@ -34,7 +35,8 @@ enum {
     YIKES_NO_CODEWORD = 6,    /* no polynomial of degree t or less differs from e shares or fewer */
     YIKES_MALFORMED = 7,      /* bytes that are no bundle, file or record, or job numbers that do not strictly rise */
     YIKES_MISMATCHED = 8,     /* a file does not belong with the first */
-    YIKES_OUT_OF_RANGE = 9    /* a place or a file that is not there, or a run from a to b with a above b, or b above the number of jobs */
+    YIKES_OUT_OF_RANGE = 9,   /* a place or a file that is not there, or a run from a to b with a above b, or b above the number of jobs */
+    YIKES_DESK_CLOSED = 10    /* the desk's count is its allowance or more */
 };
 
 /* What every line of yikes_list_line fits into, with its line feed. */
@@ -60,6 +62,13 @@ enum {
     YIKES_ABOUT_FILES = 7,     /* the files */
     YIKES_ABOUT_FILE_SIZE = 8, /* the bytes of each file */
     YIKES_ABOUT = 9
+};
+
+/* A desk's record, by place, and how many words that is. */
+enum {
+    YIKES_DESK_ALLOWANCE = 0, /* how many openings that give words a month may have, 0 to 1,000 */
+    YIKES_DESK_COUNT = 1,     /* how many it has had */
+    YIKES_DESK = 2
 };
 
 /* The kinds of records. */
@@ -169,6 +178,19 @@ uint8_t yikes_list_line(const uint8_t *bundle, size_t bundle_length, size_t plac
  * replaced by the value of the job's polynomial at its holder's point. A job that declines with 5 or 6 keeps its words, and every other byte
  * stays. A job that opens in the bundle opens in out to the same words, and names nobody. Then gives 2. */
 uint8_t yikes_mend(const uint8_t *bundle, size_t bundle_length, uint8_t *out, size_t out_length);
+
+/* ---- a desk that limits openings: desk has exactly YIKES_DESK words, which the caller lends and keeps from call to call. Where each call after a
+ * start is lent them as the call before left them, the count is the number of openings that gave words since the last start, and never exceeds the
+ * allowance. The other calls ask no desk: totals, listings and mending are free. */
+
+/* Starts a month: desk becomes the allowance q, 0 to 1,000, and a count of 0, whatever it was. Gives 2, and 1 for q above 1,000. */
+uint8_t yikes_desk_start(uint64_t *desk, size_t desk_length, uint64_t q);
+
+/* Opens the job at a place where the desk's count is below its allowance: out, wrong and lowest are filled as yikes_open_place does, and the count
+ * grows by one. Whatever declines is not counted, and leaves desk as it was. Gives 2 for desk, and 1 for an allowance above 1,000; then the bundle's
+ * first fault; then 2 for the other outputs, 9, 10, 5, 6. */
+uint8_t yikes_desk_open(uint64_t *desk, size_t desk_length, const uint8_t *bundle, size_t bundle_length, size_t place, uint64_t *out,
+                        size_t out_length, uint64_t *wrong, size_t wrong_length, uint8_t *lowest, size_t lowest_length);
 
 #ifdef __cplusplus
 }

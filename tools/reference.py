@@ -1,5 +1,5 @@
 #!/usr/bin/env python3
-"""A second implementation of papers 01 and 02 (K1 to K4), for comparison: ring, dealing, opening, file writer, bundle reader, listing, mending.
+"""A second implementation of papers 01 and 02 (K1 to K5), for comparison: ring, dealing, opening, file writer, bundle reader, listing, mending, desk.
 
 Without arguments this is the program `open`: a bundle on standard input, its listing on standard output. With `--mend` it prints what `mend` does.
 `--selftest` checks the paper's examples, and three ways of opening against each other.
@@ -20,6 +20,7 @@ from functools import lru_cache
 MODULUS = {2: (0, 1), 3: (0, 1), 4: (0, 1), 5: (0, 2), 6: (0, 1)}
 LONGEST_INPUT = 65536
 MOST_JOBS = 1000
+MOST_OPENINGS = 1000  # of a month
 
 Book = namedtuple("Book", "k d n t")
 
@@ -567,6 +568,30 @@ def open_run(data, a, b):
     return open_shares(bundle.book, {i: bundle.total(i, a, b) for i in bundle.files}, bundle.e)
 
 
+# ---------------------------------------------------------------- the desk (paper 02, K5): a record is "an allowance Q .. and a count"
+
+def desk_start(desk, q):
+    """The record after "the start of a month". Order 2, 1: "a Q above 1,000 gives 1 there too and starts nothing"."""
+    require(len(desk) == 2, 2)
+    require(q <= MOST_OPENINGS, 1)
+    return q, 0
+
+
+def desk_open(desk, data, place):
+    """The record after "the opening of one job by its place", and what that gave: "only an opening that gives words adds one".
+
+    Order: 2 of the record, 1 of its Q, the bundle's faults, 9, 10 "when the count is Q or more", 5, 6.
+    """
+    require(len(desk) == 2, 2)
+    q, count = desk
+    require(q <= MOST_OPENINGS, 1)
+    bundle = Bundle(data)
+    require(place < len(bundle.numbers), 9)
+    require(count < q, 10)
+    words = open_shares(bundle.book, bundle.shares(place), bundle.e)
+    return (q, count + 1), words
+
+
 # ---------------------------------------------------------------- mending (paper 02, K2)
 
 def mended_shares(bundle, place):
@@ -775,6 +800,43 @@ def test_added():
     assert [number_of(add_total, late, 3, a, b, lent) for a, b in ((0, 1), (0, 2), (1, 2), (2, 2))] == [0, 3, 3, 0]
 
 
+def test_desk():
+    """K5 on the paper's sample, whose job 10 opens and whose job 11 gives 6: what is counted, and the order of what is declined."""
+    data, two_files, first = sample(), sample()[:173], ((5, 2), {3: 2})
+    assert [desk_start(desk, q) for desk, q in (((2**64 - 1, 7), 1000), ((3, 3), 0))] == [(1000, 0), (0, 0)]
+    assert [number_of(desk_start, (3, 1), q) for q in (1000, 1001, 2**64 - 1)] == [0, 1, 1]
+    assert [number_of(desk_start, desk, 1001) for desk in ((), (3,), (3, 1, 0))] == [2, 2, 2]
+    assert desk_open((2, 0), data, 0) == ((2, 1), first) and desk_open((1000, 999), data, 0) == ((1000, 1000), first)
+    assert [number_of(desk_open, (2, 1), data, place) for place in (0, 1, 2)] == [0, 6, 9]
+    for closed in ((0, 0), (2, 2), (2, 3), (0, 2**64 - 1), (1000, 1000), (1000, 2**64 - 1)):
+        assert [number_of(desk_open, closed, data, place) for place in (0, 1, 2, 2**64 - 1)] == [10, 10, 9, 9]
+        assert [number_of(desk_open, closed, two_files, place) for place in (0, 2)] == [10, 9]
+        assert number_of(desk_open, closed, data[:255], 0) == 7
+    assert [number_of(desk_open, desk, two_files, 0) for desk in ((1, 0), (1001, 0))] == [5, 1]  # too few for e = 1
+    for q in (1001, 2**63, 2**64 - 1):  # "before the bundle is read"
+        assert [number_of(desk_open, (q, count), part, 2) for count in (0, q) for part in (data, b"")] == 4 * [1]
+    assert [number_of(desk_open, desk, part, 0) for desk in ((), (1001,), (1001, 0, 0)) for part in (data, b"")] == 6 * [2]
+
+
+def test_month(rng):
+    """ "Over any calls after a start .. the count is the number of openings that gave words since the last start, and never exceeds Q". """
+    bundles = sample(), sample()[:173], sample()[:255], sample({10: [(5, 2)] * 3, 11: [(7, 0)] * 3})
+    for _ in range(40):
+        q, gave = rng.randrange(6), 0
+        desk = desk_start((rng.getrandbits(64), rng.getrandbits(64)), q)
+        for _ in range(25):
+            data, place, new = rng.choice(bundles), rng.randrange(3), rng.choice((0, 1, 4, 1000, 1001, 2**64 - 1))
+            without, number = number_of(open_place, data, place), number_of(desk_open, desk, data, place)
+            assert number == (10 if gave == q and without in (0, 5, 6) else without)
+            if number == 0:
+                desk, words = desk_open(desk, data, place)
+                gave += 1
+                assert words == open_place(data, place)
+            if rng.random() < 0.1 and number_of(desk_start, desk, new) == 0:
+                desk, q, gave = desk_start(desk, new), new, 0
+            assert desk == (q, gave) and gave <= q
+
+
 def test_mended():
     """K2 on the paper's sample: one share replaced, job 11 as it was; wide words replaced whole; what is declined."""
     data, new = sample(), sample({**SAMPLE_JOBS, 10: [(5, 2)] * 3})
@@ -932,12 +994,14 @@ def selftest():
     test_lowest()
     test_bundle()
     test_added()
+    test_desk()
     test_mended()
     test_ring(rng)
     test_runs(rng)
     seen = test_openings(rng, 6000)
     test_large(rng)
     test_mending(rng)
+    test_month(rng)
     print("self-test passed; openings compared:", ", ".join(f"{count} {name}" for name, count in seen.items()))
 
 

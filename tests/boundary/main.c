@@ -29,6 +29,7 @@ static struct {
     uint64_t words[512];
     uint64_t between[8];
     uint64_t second[8];
+    uint64_t desk[8];
     uint8_t lowest[YIKES_LOWEST + 8];
     uint8_t bytes[8192];
     uint64_t after[8];
@@ -69,6 +70,26 @@ static int now_bytes(const void *bytes, size_t n) {
     return untouched();
 }
 
+/* A desk's record that is lent is set in both blocks: untouched() then says that it stands there still. */
+static uint64_t *lent_desk(uint64_t allowance, uint64_t count) {
+    o.desk[YIKES_DESK_ALLOWANCE] = fresh.desk[YIKES_DESK_ALLOWANCE] = allowance;
+    o.desk[YIKES_DESK_COUNT] = fresh.desk[YIKES_DESK_COUNT] = count;
+    return o.desk;
+}
+
+/* What a start leaves. */
+static int now_starts(uint64_t allowance) {
+    fresh.desk[YIKES_DESK_ALLOWANCE] = allowance;
+    fresh.desk[YIKES_DESK_COUNT] = 0;
+    return untouched();
+}
+
+/* What an opening at a desk leaves: the count, and then as without one. */
+static int now_counts(uint64_t count, const uint64_t *words, size_t n, size_t holder, uint8_t bit) {
+    fresh.desk[YIKES_DESK_COUNT] = count;
+    return now_opens(words, n, holder, bit);
+}
+
 #define DECLINES(number, call)                                       \
     do {                                                             \
         poison();                                                    \
@@ -88,6 +109,7 @@ static int now_bytes(const void *bytes, size_t n) {
 #define ABOUT o.words, YIKES_ABOUT
 #define PART o.words, 3
 #define STEP o.words, 4
+#define DESK(allowance, count) lent_desk(allowance, count), YIKES_DESK
 
 /* Parameters that are out of their ranges, each in one number. */
 static const struct {
@@ -437,6 +459,14 @@ static void refuses(uint8_t number, const uint8_t *bytes, size_t n) {
     DECLINES(number, yikes_mend(bytes, n, o.bytes, n));
     DECLINES(number, yikes_mend(bytes, n, NULL, 0));
     DECLINES(number, yikes_mend(bytes, n, o.bytes, HUGE_LENGTH));
+    DECLINES(number, yikes_desk_open(DESK(3, 0), bytes, n, 0, OUT, SECOND, LOWEST));
+    DECLINES(number, yikes_desk_open(DESK(3, 3), bytes, n, SIZE_MAX, NULL, 0, NULL, 0, NULL, 0));
+    DECLINES(number, yikes_desk_open(DESK(0, 0), bytes, n, 0, OUT, SECOND, o.lowest, 63));
+    /* a desk's own faults come before any byte of the bundle */
+    DECLINES(YIKES_PARAMETERS, yikes_desk_open(DESK(1001, 0), bytes, n, 0, OUT, SECOND, LOWEST));
+    DECLINES(YIKES_PARAMETERS, yikes_desk_open(DESK(UINT64_MAX, UINT64_MAX), bytes, n, SIZE_MAX, NULL, 0, NULL, 0, NULL, 0));
+    DECLINES(YIKES_LENGTH, yikes_desk_open(lent_desk(1001, 0), 1, bytes, n, 0, OUT, SECOND, LOWEST));
+    DECLINES(YIKES_LENGTH, yikes_desk_open(NULL, 0, bytes, n, SIZE_MAX, NULL, 0, NULL, 0, NULL, 0));
 }
 
 static void faults(void) {
@@ -838,33 +868,189 @@ static void mending(void) {
     DECLINES(YIKES_LENGTH, yikes_mend(empty, 30, o.bytes, 29));
 }
 
-/* All 63 files of the largest book with one job, 21 shares of it changed in the highest of 64 bits or in all words: mended, the files are as they
- * were written. */
-static void mending_largest(uint64_t k) {
-    enum { SIZE = 23 + 14 + 8 * 6 };
-    static uint8_t right[7 + 63 * SIZE], wrong[sizeof right];
+/* All 63 files of the largest book with one job, as they were written, and with 21 shares of it changed in the highest of 64 bits or in all words. */
+enum { LARGE_FILE = 23 + 14 + 8 * 6 };
+static uint8_t written[7 + 63 * LARGE_FILE], since[sizeof written];
+
+static void largest_bundle(uint64_t k) {
     const uint64_t number[1] = {UINT64_MAX};
     uint64_t job[6], coefficients[20 * 6], shares[63 * 6];
     size_t i;
     for (i = 0; i < 6; i++) job[i] = draw() >> (64 - k);
     for (i = 0; i < COUNT(coefficients); i++) coefficients[i] = draw() >> (64 - k);
     check(yikes_deal(k, 6, 63, 20, job, 6, coefficients, COUNT(coefficients), shares, COUNT(shares)) == YIKES_OK, __LINE__, "deal");
-    check(yikes_write_order(21, right, 7) == YIKES_OK, __LINE__, "write_order");
+    check(yikes_write_order(21, written, 7) == YIKES_OK, __LINE__, "write_order");
     for (i = 0; i < 63; i++) {
-        check(yikes_write_file(k, 6, 63, 20, i + 1, 7, number, 1, shares + 6 * i, 6, right + 7 + i * SIZE, SIZE) == YIKES_OK, __LINE__, "write_file");
+        check(yikes_write_file(k, 6, 63, 20, i + 1, 7, number, 1, shares + 6 * i, 6, written + 7 + i * LARGE_FILE, LARGE_FILE) == YIKES_OK, __LINE__,
+              "write_file");
     }
-    memcpy(wrong, right, sizeof right);
+    memcpy(since, written, sizeof written);
     for (i = 1; i < 63; i += 3) {
-        uint8_t *share = wrong + 7 + i * SIZE + 37;
+        uint8_t *share = since + 7 + i * LARGE_FILE + 37;
         if (i % 2 == 0) share[8 * (i % 6) + 7] ^= 128;
         else memset(share, (int)i, 8 * 6);
     }
-    GIVES(yikes_mend(wrong, sizeof wrong, o.bytes, sizeof wrong), now_bytes(right, sizeof right));
-    GIVES(yikes_mend(right, sizeof right, o.bytes, sizeof right), now_bytes(right, sizeof right));
-    wrong[6] = 20;
-    GIVES(yikes_mend(wrong, sizeof wrong, o.bytes, sizeof wrong), now_bytes(wrong, sizeof wrong));
-    wrong[6] = 22;
-    GIVES(yikes_mend(wrong, sizeof wrong, o.bytes, sizeof wrong), now_bytes(wrong, sizeof wrong));
+}
+
+/* Mended, the files are as they were written. */
+static void mending_largest(uint64_t k) {
+    largest_bundle(k);
+    GIVES(yikes_mend(since, sizeof since, o.bytes, sizeof since), now_bytes(written, sizeof written));
+    GIVES(yikes_mend(written, sizeof written, o.bytes, sizeof written), now_bytes(written, sizeof written));
+    since[6] = 20;
+    GIVES(yikes_mend(since, sizeof since, o.bytes, sizeof since), now_bytes(since, sizeof since));
+    since[6] = 22;
+    GIVES(yikes_mend(since, sizeof since, o.bytes, sizeof since), now_bytes(since, sizeof since));
+}
+
+/* What a start stores, and a desk's own faults, which come before all others. In the bundle of 256 bytes place 0 opens with holder 3 wrong, place 1
+ * gives 6, and there is no place 2. */
+static void desk_faults(void) {
+    const uint64_t allowed[] = {0, 1, 3, 999, 1000}, above[] = {1001, 1002, UINT64_C(1) << 32, UINT64_C(1) << 63, UINT64_MAX};
+    const size_t lengths[] = {0, 1, 3, 4, HUGE_LENGTH}, n = sizeof bundle;
+    size_t i;
+
+    for (i = 0; i < COUNT(allowed); i++) {
+        GIVES(yikes_desk_start(DESK(7, 3), allowed[i]), now_starts(allowed[i]));
+        GIVES(yikes_desk_start(DESK(UINT64_MAX, UINT64_MAX), allowed[i]), now_starts(allowed[i]));
+    }
+    for (i = 0; i < COUNT(above); i++) {
+        DECLINES(YIKES_PARAMETERS, yikes_desk_start(DESK(7, 3), above[i]));
+        DECLINES(YIKES_PARAMETERS, yikes_desk_open(DESK(above[i], 0), bundle, n, 0, OUT, SECOND, LOWEST));
+        DECLINES(YIKES_PARAMETERS, yikes_desk_open(DESK(above[i], above[i]), bundle, n, 2, NULL, 0, NULL, 0, NULL, 0));
+        DECLINES(YIKES_PARAMETERS, yikes_desk_open(DESK(above[i], UINT64_MAX), bundle, 255, 0, OUT, SECOND, LOWEST));
+    }
+    for (i = 0; i < COUNT(lengths); i++) {
+        DECLINES(YIKES_LENGTH, yikes_desk_start(lent_desk(7, 3), lengths[i], 5));
+        DECLINES(YIKES_LENGTH, yikes_desk_start(lent_desk(7, 3), lengths[i], 1001));
+        DECLINES(YIKES_LENGTH, yikes_desk_open(lent_desk(7, 3), lengths[i], bundle, n, 0, OUT, SECOND, LOWEST));
+        DECLINES(YIKES_LENGTH, yikes_desk_open(lent_desk(1001, 3), lengths[i], bundle, 255, 2, NULL, 0, NULL, 0, NULL, 0));
+    }
+    DECLINES(YIKES_LENGTH, yikes_desk_start(NULL, 0, 5));
+    DECLINES(YIKES_LENGTH, yikes_desk_start(NULL, 0, 1001));
+    DECLINES(YIKES_LENGTH, yikes_desk_open(NULL, 0, bundle, n, 0, OUT, SECOND, LOWEST));
+}
+
+/* The other numbers of an opening, each where those that come after it hold too: with an allowance of two wrong shares every place gives 5. */
+static void desk_orders(void) {
+    const uint64_t closed[][2] = {{0, 0}, {0, 1}, {1, 1}, {3, 3}, {3, 4}, {1000, 1000}, {1000, 1001}, {1000, UINT64_C(1) << 63},
+                                  {1000, UINT64_MAX - 1}, {1000, UINT64_MAX}};
+    const size_t n = sizeof bundle;
+    uint8_t few[256];
+    size_t i;
+
+    memcpy(few, bundle, n);
+    few[6] = 2;
+    DECLINES(YIKES_LENGTH, yikes_desk_open(DESK(3, 3), few, n, 2, o.words, 1, SECOND, LOWEST));
+    DECLINES(YIKES_LENGTH, yikes_desk_open(DESK(3, 3), few, n, 2, o.words, 3, SECOND, LOWEST));
+    DECLINES(YIKES_LENGTH, yikes_desk_open(DESK(3, 3), few, n, 2, NULL, 0, SECOND, LOWEST));
+    DECLINES(YIKES_LENGTH, yikes_desk_open(DESK(3, 3), few, n, 2, o.words, HUGE_LENGTH, SECOND, LOWEST));
+    DECLINES(YIKES_LENGTH, yikes_desk_open(DESK(3, 3), few, n, 2, OUT, NULL, 0, LOWEST));
+    DECLINES(YIKES_LENGTH, yikes_desk_open(DESK(3, 3), few, n, 2, OUT, o.second, 2, LOWEST));
+    DECLINES(YIKES_LENGTH, yikes_desk_open(DESK(3, 3), few, n, 2, OUT, o.second, HUGE_LENGTH, LOWEST));
+    DECLINES(YIKES_LENGTH, yikes_desk_open(DESK(3, 3), few, n, 2, OUT, SECOND, NULL, 0));
+    DECLINES(YIKES_LENGTH, yikes_desk_open(DESK(3, 3), few, n, 2, OUT, SECOND, o.lowest, 63));
+    DECLINES(YIKES_LENGTH, yikes_desk_open(DESK(3, 3), few, n, 2, OUT, SECOND, o.lowest, 65));
+    DECLINES(YIKES_LENGTH, yikes_desk_open(DESK(3, 3), few, n, 2, OUT, SECOND, o.lowest, HUGE_LENGTH));
+    DECLINES(YIKES_LENGTH, yikes_desk_open(DESK(3, 0), bundle, n, 0, o.words, 3, SECOND, LOWEST));
+    DECLINES(YIKES_LENGTH, yikes_desk_open(DESK(3, 0), bundle, n, 0, OUT, o.second, 2, LOWEST));
+    DECLINES(YIKES_LENGTH, yikes_desk_open(DESK(3, 0), bundle, n, 0, OUT, SECOND, o.lowest, 63));
+    for (i = 0; i < COUNT(closed); i++) {
+        const uint64_t q = closed[i][0], count = closed[i][1];
+        DECLINES(YIKES_OUT_OF_RANGE, yikes_desk_open(DESK(q, count), few, n, 2, OUT, SECOND, LOWEST));
+        DECLINES(YIKES_OUT_OF_RANGE, yikes_desk_open(DESK(q, count), bundle, n, SIZE_MAX, OUT, SECOND, LOWEST));
+        DECLINES(YIKES_DESK_CLOSED, yikes_desk_open(DESK(q, count), bundle, n, 0, OUT, SECOND, LOWEST));
+        DECLINES(YIKES_DESK_CLOSED, yikes_desk_open(DESK(q, count), bundle, n, 1, OUT, SECOND, LOWEST));
+        DECLINES(YIKES_DESK_CLOSED, yikes_desk_open(DESK(q, count), few, n, 0, OUT, SECOND, LOWEST));
+    }
+}
+
+/* An opening at a desk beside one without, which gives the same number and the same in all outputs while the count is below the allowance. The record
+ * is left for the next call, with 0 counted. */
+static void at_desk(int line, uint8_t number, uint64_t *desk, const uint8_t *bytes, size_t n, size_t place, size_t d) {
+    const uint64_t allowance = desk[YIKES_DESK_ALLOWANCE], count = desk[YIKES_DESK_COUNT];
+    int holds;
+    poison();
+    holds = yikes_desk_open(DESK(allowance, count), bytes, n, place, o.words, d, SECOND, LOWEST) == number;
+    memcpy(desk, o.desk, YIKES_DESK * sizeof *desk);
+    holds = holds && desk[YIKES_DESK_ALLOWANCE] == allowance && desk[YIKES_DESK_COUNT] == count + (number == YIKES_OK);
+    if (count < allowance) {
+        fresh = o;
+        memset(&o, 0xa5, sizeof o);
+        lent_desk(desk[YIKES_DESK_ALLOWANCE], desk[YIKES_DESK_COUNT]);
+        holds = yikes_open_place(bytes, n, place, o.words, d, SECOND, LOWEST) == number && holds;
+    }
+    check(holds && untouched(), line, "an opening at a desk");
+}
+#define AT_DESK(number, bytes, place, d) at_desk(__LINE__, number, desk, bytes, sizeof bytes, place, d)
+
+/* A month with an allowance of q: refusals and openings by turns until the desk is closed. */
+static void month(uint64_t *desk, uint64_t q) {
+    uint8_t few[256];
+    uint64_t i;
+    memcpy(few, bundle, sizeof few);
+    few[6] = 2;
+    check(yikes_desk_start(desk, YIKES_DESK, q) == YIKES_OK && desk[0] == q && desk[1] == 0, __LINE__, "the start of a month");
+    for (i = 0; i < q; i++) {
+        AT_DESK(YIKES_OUT_OF_RANGE, bundle, 2, 2);
+        AT_DESK(YIKES_TOO_FEW_SHARES, few, 0, 2);
+        AT_DESK(YIKES_NO_CODEWORD, bundle, 1, 2);
+        AT_DESK(YIKES_OK, bundle, 0, 2);
+    }
+    AT_DESK(YIKES_OUT_OF_RANGE, bundle, 2, 2);
+    AT_DESK(YIKES_DESK_CLOSED, few, 0, 2);
+    AT_DESK(YIKES_DESK_CLOSED, bundle, 1, 2);
+    AT_DESK(YIKES_DESK_CLOSED, bundle, 0, 2);
+    check(yikes_desk_start(desk, YIKES_DESK, 1001) == YIKES_PARAMETERS && desk[0] == q && desk[1] == q, __LINE__, "a start that declines");
+}
+
+static void desks(void) {
+    const uint64_t job[2] = {5, 2}, total[2] = {2, 4}, sum[2] = {7, 6}, shares[6] = {5, 2, 5, 2, 1, 2}, holders[3] = {1, 2, 3};
+    const uint64_t length = 17;
+    const size_t n = sizeof bundle;
+    uint64_t desk[YIKES_DESK] = {UINT64_MAX, UINT64_MAX};
+    uint8_t right[256];
+
+    memcpy(right, bundle, n);
+    right[210] = 5;
+    GIVES(yikes_desk_open(DESK(3, 0), bundle, n, 0, OUT, SECOND, LOWEST), now_counts(1, job, 2, 3, 2));
+    GIVES(yikes_desk_open(DESK(3, 2), bundle, n, 0, OUT, SECOND, LOWEST), now_counts(3, job, 2, 3, 2));
+    GIVES(yikes_desk_open(DESK(1000, 999), right, n, 0, OUT, SECOND, LOWEST), now_counts(1000, job, 2, 0, 0));
+    DECLINES(YIKES_NO_CODEWORD, yikes_desk_open(DESK(3, 2), bundle, n, 1, OUT, SECOND, LOWEST));
+    right[217] = 128;
+    GIVES(yikes_desk_open(DESK(1, 0), right, n, 0, OUT, SECOND, LOWEST), now_counts(1, job, 2, 3, 63));
+    right[217] = 0;
+
+    month(desk, 3);
+    month(desk, 0);
+    month(desk, 1000);
+    month(desk, 1);
+
+    /* a closed desk closes nothing else */
+    GIVES((lent_desk(2, 2), yikes_open_place(bundle, n, 0, OUT, SECOND, LOWEST)), now_opens(job, 2, 3, 2));
+    GIVES((lent_desk(2, 2), yikes_open(BOOK, 0, holders, 3, shares, 6, 1, OUT, SECOND, LOWEST)), now_opens(job, 2, 3, 2));
+    GIVES((lent_desk(2, 2), yikes_open_run(bundle, n, 0, 1, OUT, SECOND, LOWEST)), now_opens(job, 2, 3, 2));
+    GIVES((lent_desk(2, 2), yikes_total(bundle, n, 1, 0, 2, OUT)), now_holds(total, 2, NULL, 0));
+    GIVES((lent_desk(2, 2), add_total(bundle, n, 1, 0, 2, job, 2)), now_holds(sum, 2, NULL, 0));
+    GIVES((lent_desk(2, 2), yikes_list_line(bundle, n, 0, o.bytes, YIKES_LINE, SECOND)),
+          !now_holds(NULL, 0, &length, 1) && now_bytes("10 open 3/2 -3,2\n", 17));
+    GIVES((lent_desk(2, 2), yikes_mend(bundle, n, o.bytes, n)), now_bytes(right, n));
+}
+
+/* The largest book at a desk, with 21 holders named; with another allowance of wrong shares it gives 6 and then 5, which are not counted. */
+static void desks_largest(uint64_t k) {
+    uint64_t desk[YIKES_DESK] = {2, 0};
+    largest_bundle(k);
+    AT_DESK(YIKES_OK, since, 0, 6);
+    check(o.second[0] == UINT64_C(0x2492492492492492), __LINE__, "21 wrong holders");
+    since[6] = 20;
+    AT_DESK(YIKES_NO_CODEWORD, since, 0, 6);
+    since[6] = 22;
+    AT_DESK(YIKES_TOO_FEW_SHARES, since, 0, 6);
+    AT_DESK(YIKES_OK, written, 0, 6);
+    check(o.second[0] == 0, __LINE__, "no wrong holder");
+    AT_DESK(YIKES_DESK_CLOSED, since, 0, 6);
+    AT_DESK(YIKES_DESK_CLOSED, written, 0, 6);
 }
 
 int main(void) {
@@ -889,6 +1075,12 @@ int main(void) {
     mending_largest(64);
     mending_largest(63);
     mending_largest(8);
+    desk_faults();
+    desk_orders();
+    desks();
+    desks_largest(64);
+    desks_largest(63);
+    desks_largest(8);
     printf("%lu checks%s\n", checks, failures == 0 ? "" : ", of which some failed");
     return failures == 0 ? 0 : 1;
 }

@@ -17,6 +17,7 @@ enum { K = 63, D = 6, N = 63, T = 20, E = 21, JOBS = 3, STACK = 1 << 20, FILE_BY
 #define JOB_WORDS (JOBS * D)
 
 static uint64_t job[D], coefficients[T * D], shares[N * D], holders[N], words[N][JOB_WORDS], out[YIKES_ABOUT], wrong[2], dealt[N * D], running[D];
+static uint64_t desk[YIKES_DESK] = {1000, 0};
 static uint8_t lowest[YIKES_LOWEST];
 static const uint64_t numbers[JOBS] = {1, 20, 300};
 static uint8_t files[N * FILE_BYTES], bundle[7 + N * FILE_BYTES], wide[sizeof bundle], copy[sizeof bundle], line[YIKES_LINE], order[7];
@@ -49,6 +50,10 @@ static void fetch_body(void) { answer = yikes_fetch_body(bundle, sizeof bundle, 
 static void fetch_fault(void) { answer = yikes_fetch_fault(bundle, sizeof bundle, N, 1); }
 static void list_line(void) { answer = yikes_list_line(wide, sizeof wide, JOBS - 1, line, sizeof line, wrong, 1); }
 static void mend(void) { answer = yikes_mend(wide, sizeof wide, copy, sizeof copy); }
+static void desk_start(void) { answer = yikes_desk_start(desk, YIKES_DESK, 1000); }
+static void desk_open(void) {
+    answer = yikes_desk_open(desk, YIKES_DESK, wide, sizeof wide, JOBS - 1, out, D, wrong, 1, lowest, YIKES_LOWEST);
+}
 
 static const struct {
     const char *name;
@@ -76,7 +81,9 @@ static const struct {
              {"yikes_fetch_body", fetch_body},
              {"yikes_fetch_fault", fetch_fault},
              {"yikes_list_line", list_line},
-             {"yikes_mend", mend}};
+             {"yikes_mend", mend},
+             {"yikes_desk_start", desk_start},
+             {"yikes_desk_open", desk_open}};
 
 static uint64_t state = 7;
 static uint64_t draw(void) {

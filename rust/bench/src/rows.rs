@@ -105,7 +105,7 @@ fn number(answer: Result<(), Refusal>) -> u8 {
     answer.map_or_else(|refusal| refusal as u8, |()| 0)
 }
 
-const ROWS: [(&str, usize, Make); 17] = [
+const ROWS: [(&str, usize, Make); 18] = [
     ("deal", INPUTS, dealing),
     ("open, none wrong", INPUTS, |random, book| opening(random, book, None)),
     ("open, e wrong in any bits", INPUTS, |random, book| opening(random, book, Some(Damage::AnyBits))),
@@ -113,6 +113,7 @@ const ROWS: [(&str, usize, Make); 17] = [
     ("open, e wide", INPUTS, |random, book| opening(random, book, Some(Damage::Wide))),
     ("open all places, same holders wrong", PLACES, |random, book| places(random, book, Wrong::Same)),
     ("open all places, different holders wrong", PLACES, |random, book| places(random, book, Wrong::Different)),
+    ("open all places through a desk, different holders wrong", PLACES, through_desk),
     ("accept", 1, accepting),
     ("accept, beside the sum of the bytes", 1, accepting_beside_checksum),
     ("total of one file", 1, |random, book| total(bundle(random, book, JOBS, Wrong::Same), book.p.d, book.p.n, JOBS)),
@@ -259,6 +260,24 @@ fn places(random: &mut Random, book: Book, who: Wrong) -> Work {
         }
     });
     Work { out: vec![0; PLACES * size_of_parts(d)], call }
+}
+
+/// The record, which is lent anew for each run with room for all places, stands after what the openings leave.
+fn through_desk(random: &mut Random, book: Book) -> Work {
+    let d = book.p.d;
+    let bytes = bundle(random, book, PLACES, Wrong::Different);
+    let call: Call = Box::new(move |side, out| {
+        let (results, desk) = out.split_at_mut(PLACES * size_of_parts(d));
+        desk.copy_from_slice(&[PLACES as u64, 0]);
+        for (place, result) in results.chunks_mut(size_of_parts(d)).enumerate() {
+            let Parts { answer, wrong, lowest, words } = parts(result);
+            *answer = u64::from(match side {
+                Side::Library => library::desk_open(desk, &bytes, place, words, wrong, lowest),
+                Side::Plain => number(plain::desk_open(desk, &bytes, place, words, wrong, lowest)),
+            });
+        }
+    });
+    Work { out: vec![0; PLACES * size_of_parts(d) + 2], call }
 }
 
 fn accepting(random: &mut Random, book: Book) -> Work {

@@ -1,5 +1,6 @@
 //! Bundles, valid, damaged and faulty, and every call on them.
 
+use crate::desk;
 use crate::library;
 use crate::lowest;
 use crate::mending;
@@ -52,11 +53,12 @@ pub fn bundle(random: &mut Random, answers: &mut Answers) -> Result<(), String> 
     rewrite(random, answers, &bytes)?;
     mending::mend(random, answers, &bytes)?;
     let (holder, run) = (index(random, written.params.n + 1), run(random, &written));
-    totals::add_total(random, answers, written.params, &bytes, holder, run)
+    totals::add_total(random, answers, written.params, &bytes, holder, run)?;
+    desk::months(random, answers, written.params.d, written.jobs, [&bytes, &written.bytes])
 }
 
 /// Mostly a good number below `bound`, otherwise one at its edge or beyond.
-fn index(random: &mut Random, bound: usize) -> usize {
+pub(crate) fn index(random: &mut Random, bound: usize) -> usize {
     if bound == 0 || random.one_in(8) {
         random.pick(&[bound, bound + 1, 1 << 32, usize::MAX])
     } else {
@@ -64,7 +66,7 @@ fn index(random: &mut Random, bound: usize) -> usize {
     }
 }
 
-fn length(random: &mut Random, right: usize) -> usize {
+pub(crate) fn length(random: &mut Random, right: usize) -> usize {
     if random.one_in(16) {
         random.wrong_length(right)
     } else {

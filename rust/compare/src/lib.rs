@@ -2,6 +2,7 @@
 //! compared: its answer, and every buffer at exit.
 
 pub mod bundles;
+pub mod desk;
 pub mod library;
 pub mod lowest;
 pub mod mending;

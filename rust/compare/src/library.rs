@@ -80,6 +80,18 @@ pub fn open_place(bundle: &[u8], place: usize, out: &mut [u64], wrong: &mut [u64
     }
 }
 
+pub fn desk_start(desk: &mut [u64], q: u64) -> u8 {
+    unsafe { yikes_desk_start(desk.as_mut_ptr(), desk.len(), q) }
+}
+
+#[rustfmt::skip]
+pub fn desk_open(desk: &mut [u64], bundle: &[u8], place: usize, out: &mut [u64], wrong: &mut [u64], lowest: &mut [u8]) -> u8 {
+    unsafe {
+        yikes_desk_open(desk.as_mut_ptr(), desk.len(), bundle.as_ptr(), bundle.len(), place,
+            out.as_mut_ptr(), out.len(), wrong.as_mut_ptr(), wrong.len(), lowest.as_mut_ptr(), lowest.len())
+    }
+}
+
 pub fn total(bundle: &[u8], holder: usize, a: usize, b: usize, out: &mut [u64]) -> u8 {
     unsafe { yikes_total(bundle.as_ptr(), bundle.len(), holder, a, b, out.as_mut_ptr(), out.len()) }
 }

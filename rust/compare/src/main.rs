@@ -1,9 +1,9 @@
 //! `compare --openings N --bundles N --seed S`: the exit code is 1 at the first difference, which is printed in full, and where a kind of lowest bit
-//! did not come in a long comparison.
+//! or an answer of a desk did not come in a long comparison.
 
 use compare::outcome::Answers;
 use compare::random::Random;
-use compare::{bundles, openings};
+use compare::{bundles, desk, openings};
 use std::process::ExitCode;
 use std::time::Instant;
 
@@ -30,11 +30,17 @@ fn options() -> Result<Options, String> {
 
 type Case = fn(&mut Random, &mut Answers) -> Result<(), String>;
 
-/// So many cases come across every kind of lowest bit of the calls that open.
+/// So many cases come across every kind of lowest bit of the calls that open, and every answer of a desk.
 const LONG: u64 = 10_000;
 
+/// What a long comparison must come across: lowest bits of these calls, and these answers.
+struct Asked {
+    opens: &'static [&'static str],
+    answers: &'static [(&'static str, &'static [usize])],
+}
+
 /// Each case has a seed of its own, so that it can be run alone.
-fn run(name: &str, cases: u64, seed: u64, case: Case, opens: &[&'static str]) -> Result<(), String> {
+fn run(name: &str, cases: u64, seed: u64, case: Case, asked: Asked) -> Result<(), String> {
     let start = Instant::now();
     let mut answers = Answers::default();
     let base = Random::new(seed).word();
@@ -43,10 +49,11 @@ fn run(name: &str, cases: u64, seed: u64, case: Case, opens: &[&'static str]) ->
         case(&mut random, &mut answers).map_err(|text| format!("{name} {i} of seed {seed} differ: {text}"))?;
     }
     println!("{cases} {name} the same, in {:.1} s; calls by their answers:\n{answers}", start.elapsed().as_secs_f64());
-    match &answers.missing(opens)[..] {
-        missing if cases >= LONG && !missing.is_empty() => Err(format!("lowest bits that never came: {}", missing.join("; "))),
-        _ => Ok(()),
+    let missing = [answers.missing_bits(asked.opens), answers.missing_answers(asked.answers)].concat();
+    if cases >= LONG && !missing.is_empty() {
+        return Err(format!("lowest bits or answers that never came: {}", missing.join("; ")));
     }
+    Ok(())
 }
 
 fn main() -> ExitCode {
@@ -58,8 +65,10 @@ fn main() -> ExitCode {
         }
     };
     println!("seed {}", options.seed);
-    let result = run("openings", options.openings, options.seed, openings::opening, &["open"])
-        .and_then(|()| run("bundles", options.bundles, options.seed, bundles::bundle, &["open_place", "open_run"]));
+    let of_openings = Asked { opens: &["open"], answers: &[] };
+    let of_bundles = Asked { opens: &["open_place", "open_run"], answers: &desk::ASKED };
+    let result = run("openings", options.openings, options.seed, openings::opening, of_openings)
+        .and_then(|()| run("bundles", options.bundles, options.seed, bundles::bundle, of_bundles));
     match result {
         Ok(()) => ExitCode::SUCCESS,
         Err(text) => {

@@ -5,14 +5,17 @@ use second::Refusal;
 use std::collections::BTreeMap;
 use std::fmt::{Debug, Display, Formatter};
 
-/// What stands in every buffer before a call, but in one that is lent to be added to.
+/// What stands in every buffer before a call, but in one that is lent to be added to, and in a desk's record.
 pub const POISON: u64 = 0xa5a5_a5a5_a5a5_a5a5;
 
+/// The answers that there are: 0 and the numbers of refusals.
+const NUMBERS: usize = 11;
+
 /// How often each call gave each answer; an opening is counted apart where a word of it is wide, mending by what it did, and a total that is added
-/// by what is lent. Of the calls that open, how often the lowest bit of a wrong share was of each kind.
+/// and an opening through a desk by what is lent. Of the calls that open, how often the lowest bit of a wrong share was of each kind.
 #[derive(Default)]
 pub struct Answers {
-    calls: BTreeMap<&'static str, [u64; 10]>,
+    calls: BTreeMap<&'static str, [u64; NUMBERS]>,
     lowest: BTreeMap<&'static str, [u64; KINDS.len()]>,
 }
 
@@ -55,6 +58,15 @@ pub fn on_opening(lengths: [usize; 3], call: impl FnOnce(&mut [u64], &mut [u64],
     outcome
 }
 
+/// The outcome of a call that opens through a desk, whose record is lent to it.
+pub fn on_desk(lent: &[u64], lengths: [usize; 3], call: impl FnOnce(&mut [u64], &mut [u64], &mut [u64], &mut [u8]) -> u8) -> Outcome {
+    let mut record = lent.to_vec();
+    let mut outcome = on_opening(lengths, |out, wrong, lowest| call(&mut record, out, wrong, lowest));
+    outcome.untouched &= record == lent;
+    outcome.buffers.push(record);
+    outcome
+}
+
 /// The outcome of a call on words that are lent to it.
 pub fn on_lent(lent: &[u64], call: impl FnOnce(&mut [u64]) -> u8) -> Outcome {
     let mut words = lent.to_vec();
@@ -88,7 +100,7 @@ impl Answers {
     }
 
     /// The kinds of lowest bits that these calls never came across.
-    pub fn missing(&self, calls: &[&'static str]) -> Vec<String> {
+    pub fn missing_bits(&self, calls: &[&'static str]) -> Vec<String> {
         let none = [0; KINDS.len()];
         let missing = |call: &'static str| {
             let counts = self.lowest.get(call).unwrap_or(&none);
@@ -96,12 +108,19 @@ impl Answers {
         };
         calls.iter().flat_map(|call| missing(call)).collect()
     }
+
+    /// The answers of these that their calls never gave.
+    pub fn missing_answers(&self, asked: &[(&'static str, &[usize])]) -> Vec<String> {
+        let given = |call: &str, answer: usize| self.calls.get(call).is_some_and(|counts| counts[answer] > 0);
+        let pairs = asked.iter().flat_map(|(call, answers)| answers.iter().map(move |answer| (call, answer)));
+        pairs.filter(|(call, answer)| !given(call, **answer)).map(|(call, answer)| format!("{call}: {answer}")).collect()
+    }
 }
 
 impl Display for Answers {
     fn fmt(&self, f: &mut Formatter) -> std::fmt::Result {
         for (call, counts) in &self.calls {
-            let counts: Vec<String> = (0..10).filter(|i| counts[*i] > 0).map(|i| format!("{i}: {}", counts[i])).collect();
+            let counts: Vec<String> = (0..NUMBERS).filter(|i| counts[*i] > 0).map(|i| format!("{i}: {}", counts[i])).collect();
             writeln!(f, "  {call:27} {}", counts.join(", "))?;
         }
         for (call, counts) in &self.lowest {

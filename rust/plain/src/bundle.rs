@@ -1,4 +1,5 @@
-//! Calls on a bundle. Each reads it all first; after that every record stands at a computed position.
+//! Calls on a bundle, and the desk that an opening may go through. Each reads the bundle whole first; after that every record stands at a computed
+//! position.
 
 use crate::decode::{decode, Shares};
 use crate::ring::{add, eval, mask, sub, Element};
@@ -9,6 +10,9 @@ use std::slice::ChunksExact;
 
 const ORDER_SIZE: usize = 7;
 const HEADING_SIZE: usize = 23;
+
+/// The largest allowance of a desk.
+const MOST_OPENINGS: u64 = 1000;
 
 const fn job_size(d: usize) -> usize {
     14 + 8 * d
@@ -247,10 +251,40 @@ pub fn accept(bytes: &[u8]) -> Result<(), Refusal> {
 }
 
 pub fn open_place(bytes: &[u8], place: usize, out: &mut [u64], wrong: &mut [u64], lowest: &mut [u8]) -> Result<(), Refusal> {
+    open_unless(false, bytes, place, out, wrong, lowest)
+}
+
+/// The opening of a place, unless a desk is closed.
+fn open_unless(closed: bool, bytes: &[u8], place: usize, out: &mut [u64], wrong: &mut [u64], lowest: &mut [u8]) -> Result<(), Refusal> {
     let bundle = Bundle::read(bytes)?;
     opening_lengths(bundle.heading.params, out, wrong, lowest)?;
     demand(place < bundle.heading.jobs, Refusal::OutOfRange)?;
+    demand(!closed, Refusal::DeskClosed)?;
     for_d!(bundle.heading.params.d, bundle.open_place::<D, { 1 << D }>(place, out, wrong, lowest))
+}
+
+/// The start of a month: the allowance and a count of zero.
+pub fn desk_start(desk: &mut [u64], q: u64) -> Result<(), Refusal> {
+    demand(desk.len() == 2, Refusal::Length)?;
+    demand(q <= MOST_OPENINGS, Refusal::Parameters)?;
+    desk.copy_from_slice(&[q, 0]);
+    Ok(())
+}
+
+/// The opening of a place that a desk counts.
+pub fn desk_open(
+    desk: &mut [u64],
+    bytes: &[u8],
+    place: usize,
+    out: &mut [u64],
+    wrong: &mut [u64],
+    lowest: &mut [u8],
+) -> Result<(), Refusal> {
+    let [q, count] = desk else { return Err(Refusal::Length) };
+    demand(*q <= MOST_OPENINGS, Refusal::Parameters)?;
+    open_unless(*count >= *q, bytes, place, out, wrong, lowest)?;
+    *count += 1;
+    Ok(())
 }
 
 pub fn open_run(bytes: &[u8], a: usize, b: usize, out: &mut [u64], wrong: &mut [u64], lowest: &mut [u8]) -> Result<(), Refusal> {

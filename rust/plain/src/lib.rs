@@ -24,7 +24,7 @@ mod decode;
 mod field;
 mod ring;
 
-pub use bundle::{accept, add_total, mend, open_place, open_run, total};
+pub use bundle::{accept, add_total, desk_open, desk_start, mend, open_place, open_run, total};
 pub use second::{Params, Refusal, HOLDERS, NOT_WRONG};
 
 use decode::{decode, Shares};

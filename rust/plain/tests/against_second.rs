@@ -171,6 +171,38 @@ fn running_totals() {
     assert!([0, 1, 2, 3, 4, 7, 9].iter().all(|number| seen[*number] > 0), "{seen:?}");
 }
 
+/// Calls on a desk, each lent the record as the call before left it: starts, openings of which some have a word too many for an output, and records
+/// from elsewhere. The answers, the outputs and the record after them.
+#[test]
+fn desks() {
+    let mut random = Random(5);
+    let mut seen = [0; 11];
+    for _ in 0..1000 {
+        let (p, bytes) = bundle(&mut random);
+        let (mut desk, mut other) = (vec![7, 7], second::Desk::new(&[7, 7]));
+        for _ in 0..6 {
+            let q = [0, 1, 2, 1000, 1001, u64::MAX][random.below(6)];
+            match random.below(4) {
+                0 => assert_eq!(plain::desk_start(&mut desk, q), other.start(q)),
+                1 if random.below(4) == 0 => {
+                    desk = [q, [0, q.wrapping_sub(1), q, u64::MAX][random.below(4)], 0][..[0, 1, 2, 2, 2, 3][random.below(6)]].to_vec();
+                    other = second::Desk::new(&desk);
+                }
+                _ => {
+                    let (place, more) = (random.below(4), [0; 3].map(|_| usize::from(random.below(32) == 0)));
+                    let [mut first, mut then] = [0; 2].map(|_| (vec![7; p.d + more[0]], vec![7; 1 + more[1]], vec![7; 64 + more[2]]));
+                    let answer = plain::desk_open(&mut desk, &bytes, place, &mut first.0, &mut first.1, &mut first.2);
+                    assert_eq!(answer, other.open(&bytes, place, &mut then.0, &mut then.1, &mut then.2), "{desk:?} {place} {bytes:?}");
+                    assert_eq!(first, then, "{desk:?} {place} {bytes:?}");
+                    seen[answer.map_or_else(|refusal| refusal as usize, |()| 0)] += 1;
+                }
+            }
+            assert_eq!(desk, other.record());
+        }
+    }
+    assert!([0, 1, 2, 4, 6, 7, 9, 10].iter().all(|number| seen[*number] > 0), "{seen:?}");
+}
+
 #[test]
 fn mending() {
     let mut random = Random(3);

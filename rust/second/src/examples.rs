@@ -250,6 +250,69 @@ fn running_totals_k3() {
     assert_eq!(add(&bundle[..255], 1, 0, 2, &[8; 3]), Err(7));
 }
 
+/// The number of an opening of the example through a desk: words are those of place 0, and what is declined leaves the outputs as they were.
+fn through(desk: &mut Desk, bytes: &[u8], place: usize) -> u8 {
+    let (mut out, mut wrong, mut lowest) = ([77; 2], [88], [99; HOLDERS]);
+    let answer = desk.open(bytes, place, &mut out, &mut wrong, &mut lowest);
+    let left = if answer.is_ok() { ([5, 2], [4], 2) } else { ([77; 2], [88], 99) };
+    assert_eq!((out, wrong, lowest[2]), left);
+    answer.map_or_else(|refusal| refusal as u8, |()| 0)
+}
+
+/// Paper 02, K5, on the example, whose place 0 opens and whose place 1 gives 6: months of calls, each with its answer and the count that it leaves.
+#[test]
+fn months_k5() {
+    let (bundle, mut desk) = (example_bundle(), Desk::new(&[u64::MAX, 7]));
+    assert_eq!((desk.start(2), desk.record()), (Ok(()), vec![2, 0]));
+    for (place, number, count) in [(1, 6, 0), (0, 0, 1), (2, 9, 1), (1, 6, 1), (0, 0, 2), (0, 10, 2), (1, 10, 2), (2, 9, 2)] {
+        assert_eq!((through(&mut desk, &bundle, place), desk.record()), (number, vec![2, count]));
+    }
+    assert_eq!([1001, u64::MAX].map(|q| desk.start(q)), [Err(Refusal::Parameters); 2]);
+    assert_eq!((through(&mut desk, &bundle, 0), desk.record()), (10, vec![2, 2]));
+    assert_eq!((desk.start(1), desk.record()), (Ok(()), vec![1, 0]));
+    assert_eq!((through(&mut desk, &bundle, 0), desk.record()), (0, vec![1, 1]));
+    assert_eq!((desk.start(0), through(&mut desk, &bundle, 0), desk.record()), (Ok(()), 10, vec![0, 0]));
+    assert_eq!((desk.start(1000), desk.record()), (Ok(()), vec![1000, 0]));
+    // openings that come on top of what was lent
+    let mut desk = Desk::new(&[1000, 998]);
+    assert_eq!([0, 1, 0, 0].map(|place| through(&mut desk, &bundle, place)), [0, 6, 0, 10]);
+    assert_eq!(desk.record(), [1000, 1000]);
+}
+
+/// Which refusal of an opening through a desk comes first, of records with any words, and of outputs with other lengths.
+#[test]
+fn desks_declined_k5() {
+    let (bundle, huge) = (example_bundle(), u64::MAX);
+    let decline = |record: &[u64], bytes: &[u8], place| {
+        let mut desk = Desk::new(record);
+        let number = through(&mut desk, bytes, place);
+        assert!(number == 0 || desk.record() == record);
+        number
+    };
+    for record in [&[][..], &[1], &[1001], &[1, 0, 0], &[1001, 0, 0]] {
+        assert_eq!([decline(record, &bundle, 0), decline(record, &[], 0)], [2, 2]);
+        assert_eq!((Desk::new(record).start(1), Desk::new(record).start(huge)), (Err(Refusal::Length), Err(Refusal::Length)));
+    }
+    for record in [[1001, 0], [1001, 1001], [huge, 0], [huge, huge]] {
+        assert_eq!([decline(&record, &bundle, 9), decline(&record, &[], 0)], [1, 1]);
+    }
+    // too few files for the allowance of one wrong share
+    for (record, numbers) in [([1, 0], [0, 6, 9, 5, 9, 7]), ([1, 1], [10, 10, 9, 10, 9, 7])] {
+        let asked = [(256, 0), (256, 1), (256, 2), (173, 0), (173, 2), (255, 0)];
+        assert_eq!(asked.map(|(length, place)| decline(&record, &bundle[..length], place)), numbers);
+    }
+    for record in [[0, 0], [1, 2], [0, huge], [1000, 1000], [1000, huge]] {
+        assert_eq!([0, 1, 2].map(|place| decline(&record, &bundle, place)), [10, 10, 9]);
+    }
+    for (record, place) in [([1, 0], 0), ([1, 1], 0), ([1, 1], 9)] {
+        for [words, set, bits] in [[1, 1, 64], [3, 1, 64], [2, 0, 64], [2, 2, 64], [2, 1, 63], [2, 1, 65]] {
+            let (mut desk, mut out, mut wrong, mut lowest) = (Desk::new(&record), vec![77; words], vec![88; set], vec![99; bits]);
+            assert_eq!(desk.open(&bundle, place, &mut out, &mut wrong, &mut lowest), Err(Refusal::Length));
+            assert_eq!((desk.record(), out, wrong, lowest), (record.to_vec(), vec![77; words], vec![88; set], vec![99; bits]));
+        }
+    }
+}
+
 #[test]
 fn ranges_of_a_book() {
     let p = |n, t| Params { k: 64, d: 4, n, t }.check();

@@ -1,13 +1,14 @@
-//! A second implementation of paper 01 and of K1 to K4 of paper 02, written from the papers alone and by other methods than the library's:
+//! A second implementation of paper 01 and of K1 to K5 of paper 02, written from the papers alone and by other methods than the library's:
 //! opening tries every set of t + 1 shares where there are few, and otherwise rises through the bits with Gao's decoder; a share and a value
-//! are compared bit by bit; mending interpolates anew through right shares; a total is made whole before it is added to a lent element; the
-//! inverse is the solution of a linear system; bundles are parsed into values first. It is made to be compared with the library, so it
-//! prefers plain to fast.
+//! are compared bit by bit; mending interpolates anew through right shares; a total is made whole before it is added to a lent element; a desk's
+//! count is told from all calls since it was lent; the inverse is the solution of a linear system; bundles are parsed into values first. It is
+//! made to be compared with the library, so it prefers plain to fast.
 //!
 //! Every call writes its outputs only when it succeeds.
 
 mod bundle;
 mod decode;
+mod desk;
 mod field;
 mod files;
 mod listing;
@@ -17,13 +18,14 @@ mod sharing;
 
 pub use bundle::{add_total, describe, fetch_body, fetch_fault, file, job_number, open_place, open_run, total};
 pub use decode::{by_levels, by_subsets, Opened, HOLDERS, NOT_WRONG};
+pub use desk::Desk;
 pub use files::{accept, check_file, read, read_bundle, write_bundle, write_file, write_order, Bundle, File, Heading, Job};
 pub use listing::{list_line, signed, LINE};
 pub use mending::{mend, report};
 pub use ring::{Element, Ring};
 pub use sharing::{add, corrections, deal, invert, open, scale, share, Share};
 
-/// The numbers of paper 01's section 'When a call declines'.
+/// The numbers of paper 01's section 'When a call declines', and 10 of paper 02, K5.
 #[derive(Clone, Copy, Debug, PartialEq, Eq)]
 #[repr(u8)]
 pub enum Refusal {
@@ -36,6 +38,7 @@ pub enum Refusal {
     Malformed = 7,
     Mismatched = 8,
     OutOfRange = 9,
+    DeskClosed = 10,
 }
 
 /// A book: the bits in a word, the words in an element, the holders, the degree.

@@ -119,6 +119,7 @@ fn main() -> Result<(), Refusal> {
     println!("lab 3's file: {}", fetch_body(&bundle, 3, 0).unwrap_err());
     println!("job 366: {}", open_place(&bundle, JOBS, &mut sums).unwrap_err());
     println!("six files alone: {}", six(&files, size)?);
+    println!("a fourth job at a desk that allows three: {}", fourth(&bundle)?);
     bundle.pop();
     println!("a byte less: {}", accept(&bundle).unwrap_err());
     println!("word {MASK} reads {}", signed(BOOK.k, MASK)?);
@@ -130,4 +131,13 @@ fn six(files: &[u8], size: usize) -> Result<Refusal, Refusal> {
     let mut bundle = vec![0; ORDER_SIZE + 6 * size];
     write_bundle(ALLOWANCE, &files[..6 * size], &mut bundle)?;
     Ok(open_place(&bundle, 0, &mut [0; 4]).unwrap_err())
+}
+
+/// The refusal of the fourth opening in a month that allows three.
+fn fourth(bundle: &[u8]) -> Result<Refusal, Refusal> {
+    let mut desk = Desk::start(3)?;
+    for place in 0..3 {
+        desk.open_place(bundle, place, &mut [0; 4])?;
+    }
+    Ok(desk.open_place(bundle, 3, &mut [0; 4]).unwrap_err())
 }

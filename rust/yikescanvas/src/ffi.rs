@@ -59,4 +59,9 @@ extern "C" {
         bundle: *const u8, bundle_length: usize, place: usize, line: *mut u8, line_length: usize, length: *mut u64, length_length: usize,
     ) -> c_uchar;
     pub fn yikes_mend(bundle: *const u8, bundle_length: usize, out: *mut u8, out_length: usize) -> c_uchar;
+    pub fn yikes_desk_start(desk: *mut u64, desk_length: usize, q: u64) -> c_uchar;
+    pub fn yikes_desk_open(
+        desk: *mut u64, desk_length: usize, bundle: *const u8, bundle_length: usize, place: usize,
+        out: *mut u64, out_length: usize, wrong: *mut u64, wrong_length: usize, lowest: *mut u8, lowest_length: usize,
+    ) -> c_uchar;
 }

@@ -32,10 +32,10 @@ pub struct Params {
     pub t: usize,
 }
 
-/// Why a call declines, with paper 01's numbers.
+/// Why a call declines, with the numbers of papers 01 and 02.
 #[derive(Clone, Copy, Debug, PartialEq, Eq)]
 pub enum Refusal {
-    /// 1: a number of the book, or the number of jobs, is out of its range.
+    /// 1: a number of the book, the number of jobs, or a desk's allowance is out of its range.
     Parameters,
     /// 2: a list or an output has not the length that the call needs.
     Length,
@@ -53,13 +53,15 @@ pub enum Refusal {
     Mismatched,
     /// 9: a place, a run or a file that is not there.
     OutOfRange,
+    /// 10: the desk's count is its allowance or more.
+    DeskClosed,
     /// A number that this crate does not know, of a library that is newer than it.
     Unknown(u8),
 }
 
 impl Refusal {
     /// Every refusal that this crate knows, in the order of the numbers.
-    pub const ALL: [Refusal; 9] = [
+    pub const ALL: [Refusal; 10] = [
         Refusal::Parameters,
         Refusal::Length,
         Refusal::WideWord,
@@ -69,9 +71,10 @@ impl Refusal {
         Refusal::Malformed,
         Refusal::Mismatched,
         Refusal::OutOfRange,
+        Refusal::DeskClosed,
     ];
 
-    /// Paper 01's number.
+    /// The papers' number.
     pub fn number(self) -> u8 {
         match self {
             Refusal::Parameters => 1,
@@ -83,6 +86,7 @@ impl Refusal {
             Refusal::Malformed => 7,
             Refusal::Mismatched => 8,
             Refusal::OutOfRange => 9,
+            Refusal::DeskClosed => 10,
             Refusal::Unknown(number) => number,
         }
     }
@@ -108,6 +112,7 @@ impl std::fmt::Display for Refusal {
             Refusal::Malformed => "malformed bytes",
             Refusal::Mismatched => "files that do not belong together",
             Refusal::OutOfRange => "a place that is not there",
+            Refusal::DeskClosed => "a closed desk",
             Refusal::Unknown(_) => "a number that is not known",
         };
         write!(f, "{text} ({})", self.number())
@@ -456,4 +461,68 @@ pub fn list_line(bundle: &[u8], place: usize, line: &mut [u8]) -> Result<usize, 
 /// [`files`] tells where each holder's file stands in both. A job that opens in the bundle opens in `out` to the same words, and names nobody.
 pub fn mend(bundle: &[u8], out: &mut [u8]) -> Result<(), Refusal> {
     told(unsafe { ffi::yikes_mend(bundle.as_ptr(), bundle.len(), out.as_mut_ptr(), out.len()) })
+}
+
+/// A desk that limits openings: an allowance, 0 to 1,000, and the count of the openings that gave words since the month began, which never exceeds
+/// it. Only [`Desk::open_place`] asks the desk; totals, listings and mending are free.
+// No `Clone`: each opening needs the record as the one before left it, and two desks with one record would each use up the whole allowance.
+#[derive(Debug, PartialEq, Eq)]
+pub struct Desk {
+    /// The allowance, and then the count.
+    record: [u64; 2],
+}
+
+impl Desk {
+    /// A new desk, at the start of a month that allows q openings. More than 1,000 decline.
+    pub fn start(q: u64) -> Result<Desk, Refusal> {
+        let mut desk = Desk { record: [0; 2] };
+        desk.restart(q)?;
+        Ok(desk)
+    }
+
+    /// The start of another month at this desk: the allowance becomes q, and the count 0. More than 1,000 decline, and start nothing.
+    pub fn restart(&mut self, q: u64) -> Result<(), Refusal> {
+        told(unsafe { ffi::yikes_desk_start(self.record.as_mut_ptr(), self.record.len(), q) })
+    }
+
+    /// A desk with a record that [`Desk::record`] gave. The record is not judged here: with an allowance above 1,000 every opening declines.
+    pub fn from_record(record: [u64; 2]) -> Desk {
+        Desk { record }
+    }
+
+    /// The allowance and the count, to be stored: a stored record is taken up once, in place of the desk that gave it.
+    pub fn record(&self) -> [u64; 2] {
+        self.record
+    }
+
+    /// How many openings that give words the month may have.
+    pub fn allowance(&self) -> u64 {
+        self.record[0]
+    }
+
+    /// How many it has had.
+    pub fn count(&self) -> u64 {
+        self.record[1]
+    }
+
+    /// Opens the job at a place as [`open_place`] does, where the count is below the allowance, and counts it. An opening that declines is not
+    /// counted.
+    pub fn open_place(&mut self, bundle: &[u8], place: usize, out: &mut [u64]) -> Result<Opened, Refusal> {
+        let desk = &mut self.record;
+        opened(|wrong, lowest| unsafe {
+            ffi::yikes_desk_open(
+                desk.as_mut_ptr(),
+                desk.len(),
+                bundle.as_ptr(),
+                bundle.len(),
+                place,
+                out.as_mut_ptr(),
+                out.len(),
+                wrong.as_mut_ptr(),
+                wrong.len(),
+                lowest.as_mut_ptr(),
+                lowest.len(),
+            )
+        })
+    }
 }

@@ -71,7 +71,7 @@ fn numbers_are_the_papers() {
         assert!(refusal.to_string().ends_with(&format!("({})", i + 1)));
     }
     assert_eq!(Refusal::from_number(0), None);
-    for number in [10, 11, 255] {
+    for number in [11, 12, 255] {
         assert_eq!(Refusal::from_number(number), Some(Refusal::Unknown(number)));
         assert_eq!(Refusal::Unknown(number).number(), number);
         assert!(Refusal::Unknown(number).to_string().ends_with(&format!("({number})")));
@@ -249,6 +249,13 @@ fn writers() {
     declines_bytes(Refusal::Parameters, 256, |o| write_bundle(1, &stranger, o));
 }
 
+/// An opening at a desk with this record, on an output of so many poisoned words: it declines as named, and leaves both.
+fn desk_declines(expected: Refusal, record: [u64; 2], length: usize, bytes: &[u8], place: usize) {
+    let mut desk = Desk::from_record(record);
+    declines(expected, length, |o| desk.open_place(bytes, place, o));
+    assert_eq!(desk.record(), record);
+}
+
 /// Every call on a bundle declines with the bundle's own number, whatever else is wrong.
 fn refuses(expected: Refusal, bytes: &[u8]) {
     assert_eq!(accept(bytes), Err(expected));
@@ -270,6 +277,12 @@ fn refuses(expected: Refusal, bytes: &[u8]) {
     }
     for n in [0, bytes.len(), 300] {
         declines_bytes(expected, n, |o| mend(bytes, o));
+    }
+    for n in [0, 2] {
+        desk_declines(expected, [3, 0], n, bytes, usize::MAX);
+        desk_declines(expected, [0, 0], n, bytes, 0);
+        // but for the desk's own fault
+        desk_declines(Refusal::Parameters, [1001, 0], n, bytes, usize::MAX);
     }
 }
 
@@ -540,4 +553,90 @@ fn mending_gives_the_written_files() {
     assert_ne!(changed, bundle);
     assert_eq!(mended(&changed), bundle);
     assert_eq!(mended(&bundle), bundle);
+}
+
+/// What a start stores, also over a record that no start leaves.
+#[test]
+fn desk_starts() {
+    for q in [0, 1, 3, 999, 1000] {
+        let mut desk = Desk::start(q).unwrap();
+        assert_eq!((desk.record(), desk.allowance(), desk.count()), ([q, 0], q, 0));
+        for record in [[7, 3], [7, 7], [0, 0], [u64::MAX, u64::MAX]] {
+            desk = Desk::from_record(record);
+            assert_eq!(desk.restart(q), Ok(()));
+            assert_eq!(desk.record(), [q, 0]);
+        }
+    }
+    for q in [1001, 1002, 1 << 32, 1 << 63, u64::MAX] {
+        assert_eq!(Desk::start(q), Err(Refusal::Parameters));
+        let mut desk = Desk::from_record([7, 3]);
+        assert_eq!(desk.restart(q), Err(Refusal::Parameters));
+        assert_eq!(desk.record(), [7, 3]);
+    }
+}
+
+/// 1, 2, 9, 10, each where all that come after it hold too, and then 5 and 6. `refuses` has the bundle's own numbers.
+#[test]
+fn desk_orders() {
+    let bundle = bundle();
+    let mut few = bundle.clone();
+    few[6] = 2;
+    for q in [1001, 1 << 63, u64::MAX] {
+        desk_declines(Refusal::Parameters, [q, q], 3, &few, 2);
+        desk_declines(Refusal::Parameters, [q, 0], 2, &bundle, 0);
+    }
+    for n in [0, 1, 3] {
+        desk_declines(Refusal::Length, [3, 3], n, &few, 2);
+        desk_declines(Refusal::Length, [3, 0], n, &bundle, 0);
+    }
+    for closed in [[0, 0], [0, 1], [1, 1], [3, 3], [3, 4], [1000, 1000], [1000, 1 << 63], [1000, u64::MAX]] {
+        for place in [2, usize::MAX] {
+            desk_declines(Refusal::OutOfRange, closed, 2, &few, place);
+        }
+        desk_declines(Refusal::DeskClosed, closed, 2, &bundle, 0);
+        desk_declines(Refusal::DeskClosed, closed, 2, &bundle, 1);
+        desk_declines(Refusal::DeskClosed, closed, 2, &few, 0);
+    }
+    for open in [[1, 0], [3, 2], [1000, 999]] {
+        desk_declines(Refusal::OutOfRange, open, 2, &few, 2);
+        desk_declines(Refusal::TooFewShares, open, 2, &few, 0);
+        desk_declines(Refusal::NoCodeword, open, 2, &bundle, 1);
+    }
+}
+
+/// Months at one desk, its record stored and taken up again between openings: as many openings as are allowed, each as without a desk, and refusals
+/// not counted.
+#[test]
+fn desk_months() {
+    let bundle = bundle();
+    // holder 3's share of job 10 right, and wide; and an allowance that the files are too few for
+    let (mut right, mut wide, mut few) = (bundle.clone(), bundle.clone(), bundle.clone());
+    right[210] = 5;
+    (wide[210], wide[217]) = (5, 128);
+    few[6] = 2;
+    let mut desk = Desk::start(1).unwrap();
+    for q in [3, 0, 1000, 1] {
+        desk.restart(q).unwrap();
+        for count in 0..q {
+            assert_eq!(desk.open_place(&few, 0, &mut [0; 2]), Err(Refusal::TooFewShares));
+            assert_eq!(desk.open_place(&bundle, 1, &mut [0; 2]), Err(Refusal::NoCodeword));
+            desk = Desk::from_record(desk.record());
+            let bytes = [&bundle, &right, &wide][count as usize % 3];
+            let (mut out, mut without) = ([POISON; 2], [POISON; 2]);
+            assert_eq!(desk.open_place(bytes, 0, &mut out), open_place(bytes, 0, &mut without));
+            assert_eq!((out, without), ([5, 2], [5, 2]));
+            assert_eq!((desk.allowance(), desk.count()), (q, count + 1));
+        }
+        declines(Refusal::DeskClosed, 2, |o| desk.open_place(&bundle, 0, o));
+        assert_eq!(desk.restart(1001), Err(Refusal::Parameters));
+        assert_eq!(desk.record(), [q, q]);
+    }
+    // closed, it closes nothing else
+    let mut out = [0; 2];
+    assert_eq!(open_place(&bundle, 0, &mut out), wrong(&[(3, 2)]));
+    assert_eq!(open_run(&bundle, 0, 1, &mut out), wrong(&[(3, 2)]));
+    assert_eq!(total(&bundle, 1, 0, 2, &mut out), Ok(()));
+    assert_eq!(list_line(&bundle, 0, &mut [0; LINE]), Ok(17));
+    assert_eq!(mended(&bundle), right);
+    assert_eq!(desk.record(), [1, 1]);
 }
