@@ -16,6 +16,7 @@ use Rattle.codewords.specs.Opening.{Opening, declines, opens, faultOf, unlessFa
 use Rattle.codewords.proofs.Opening.{unless-none, unless-some}
 use Rattle.bundle.specs.Bundle.{bundleHeading}
 use Rattle.fetch.specs.Fetch.{placeFault}
+use Rattle.totals.proofs.AddTotals.{first-last}
 use Rattle.archive.specs.Archive.{openingFault, placeOpening, openPlace}
 use Rattle.archive.proofs.Opens.{place-states}
 use Rattle.desk.specs.Desk.{largestAllowance, allowanceFault, closedFault, deskFault, deskOpening, countAfter, deskAfter, startAfter}
@@ -72,12 +73,7 @@ desk-fits q c a e = first-none (allowanceFault q) _ e
 
 -- a desk that is open refuses nothing of its own
 pub desk-open : (q c a : ℕ) → q ≤ largestAllowance → c < q → deskFault q c a ≡ a
-unfolding first
-desk-open q c a h l = desk-fits q c a (allowance-fits q h) ∙ ap (first a) (closed-below q c l) ∙ last a
-  where
-    last : (x : ℕ) → first x 0 ≡ x
-    last zero = refl
-    last (suc x) = refl
+desk-open q c a h l = desk-fits q c a (allowance-fits q h) ∙ ap (first a) (closed-below q c l) ∙ first-last a
 
 module _ (q c : ℕ) (bs : List ℕ) (p n w l : ℕ) where
   -- the refusals of an opening without a desk
