@@ -20,9 +20,12 @@ ghost use Rattle.writer.specs.Write.{fileFor, fileWriteFault, orderFault, bundl
 ghost use Rattle.totals.specs.Total.{totalFault, totalWords, addTotalFault, addTotalWords};
 ghost use Rattle.archive.specs.Archive.{sharesAt, sharesOver, openPlace, openRun};
 ghost use Rattle.listing.specs.Listing.{lineOf, lineFault};
-ghost use Rattle.text.specs.Text.{written};
+ghost use Rattle.decimal.specs.Decimal.{written};
 ghost use Rattle.mending.specs.Mended.{mended, mendFault};
 ghost use Rattle.desk.specs.Lent.{lentOpening, recordInto, lentStartFault};
+ghost use Rattle.labelled.specs.JobText.{textOf};
+ghost use Rattle.labelled.specs.Reading.{scanned, wordsOf};
+ghost use Rattle.labelled.specs.Calls.{sizeFault, writeFault, readFault};
 ghost use Rattle.boundary.specs.Boundary.{params};
 use words::Params;
 
@@ -406,4 +409,64 @@ pub extern "C" fn yikes_desk_open(
         (length (now (out .entry))) (length (now (wrong .entry))) (length (now (lowest .entry)))) ⌝ }
 {
     desk::open_lent(desk, bytes, place, out, wrong, lowest)
+}
+
+// ---- job text
+
+// The length of a job's text, into an output of one word.
+#[no_mangle]
+pub extern "C" fn yikes_text_size(
+    k: u64,
+    d: usize,
+    n: usize,
+    t: usize,
+    number: u64,
+    words: &[u64],
+    size: &mut [u64],
+) -> u8
+    ensures { λ r. ⌜ (r ≡ sizeFault (params k d n t) (now (words .entry)) (length (now (size .entry))))
+        × (now (size .exit) ≡ kept (sizeFault (params k d n t) (now (words .entry)) (length (now (size .entry)))) (now (size .entry))
+        (length (textOf k number (now (words .entry))) ∷ [])) ⌝ }
+{
+    labelled::text_size(Params { k, d, n, t }, number, words, size)
+}
+
+// A job's text, into an output of its length.
+#[no_mangle]
+pub extern "C" fn yikes_write_text(
+    k: u64,
+    d: usize,
+    n: usize,
+    t: usize,
+    number: u64,
+    words: &[u64],
+    out: &mut [u8],
+) -> u8
+    ensures { λ r. ⌜ (r ≡ writeFault (params k d n t) number (now (words .entry)) (length (now (out .entry))))
+        × (now (out .exit) ≡ kept (writeFault (params k d n t) number (now (words .entry)) (length (now (out .entry)))) (now (out .entry))
+        (textOf k number (now (words .entry)))) ⌝ }
+{
+    labelled::write_text(Params { k, d, n, t }, number, words, out)
+}
+
+// The number and the words whose text it is, into outputs of one word and of four.
+#[no_mangle]
+pub extern "C" fn yikes_read_text(
+    k: u64,
+    d: usize,
+    n: usize,
+    t: usize,
+    text: &[u8],
+    number: &mut [u64],
+    words: &mut [u64],
+) -> u8
+    ensures fault { λ r. ⌜ r ≡ readFault (params k d n t) (now (text .entry)) (length (now (number .entry))) (length (now (words .entry))) ⌝ }
+    ensures number { λ _. ⌜ now (number .exit)
+        ≡ kept (readFault (params k d n t) (now (text .entry)) (length (now (number .entry))) (length (now (words .entry)))) (now (number .entry))
+        (scanned (now (text .entry)) .number ∷ []) ⌝ }
+    ensures words { λ _. ⌜ now (words .exit)
+        ≡ kept (readFault (params k d n t) (now (text .entry)) (length (now (number .entry))) (length (now (words .entry)))) (now (words .entry))
+        (wordsOf k (scanned (now (text .entry)))) ⌝ }
+{
+    labelled::read_text(Params { k, d, n, t }, text, number, words)
 }

@@ -10,7 +10,7 @@ use Rattle.codewords.specs.Codeword.{Share}
 use Rattle.codewords.specs.Opening.{Opening, declines, opens, secretInto, wrongOf}
 use Rattle.sharing.specs.Dealing.{dealt}
 use Rattle.sharing.specs.Opening.{lent, opening}
-use Rattle.text.specs.Text.{ascii}
+use Rattle.decimal.specs.Decimal.{ascii}
 use Rattle.listing.specs.Listing.{listingOf}
 use Rattle.mending.specs.Mended.{mended}
 use Rattle.mending.specs.Report.{reportOf}

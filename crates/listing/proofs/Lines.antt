@@ -17,8 +17,9 @@ use Rattle.codewords.proofs.Value.{free-element}
 use Rattle.records.specs.declared.Heading.{Heading}
 use Rattle.bundle.specs.Bundle.{numOf, jobAt, paramsOf, allowanceOf, bundleHeading}
 use Rattle.archive.specs.Archive.{sharesAt, placeOpening}
-use Rattle.text.specs.Text.{written, lineRoom, openLine, declinedLine, readings}
-use Rattle.text.proofs.Written.{written-none}
+use Rattle.decimal.specs.Decimal.{written}
+use Rattle.text.specs.Text.{lineRoom, openLine, declinedLine, readings}
+use Rattle.decimal.proofs.Written.{written-none}
 use Rattle.listing.specs.Listing.{lineBy, lineOf}
 
 -- the job of an opened place is an element: d words, in width
@@ -45,13 +46,13 @@ module _ (bs : List ℕ) (p : ℕ) (h : Heading) (e : h ≡ bundleHeading bs) (n
 
   -- one that does: its words are in the first row
   module _ (z : c ≡ 0) (s : Shaped rows) where
-    abbrev q : Polynomial
+    abbrev pub q : Polynomial
     q = coefs (h .params .d) (suc (h .params .t)) rows
 
-    opened : placeOpening bs p ≡ opens q
+    pub opened : placeOpening bs p ≡ opens q
     opened = sym i ∙ ap (λ (x : ℕ). openingIn (h .params .d) (h .params .t) x rows) z
 
-    first-row : take (h .params .d) (getD rows 0 []) ≡ getD q 0 []
+    pub first-row : take (h .params .d) (getD rows 0 []) ≡ getD q 0 []
     first-row =
         handed (h .params .k) (h .params .d) (h .params .t) (sharesAt bs p) 0 rows w (opens q) s refl
         (u ∙ ap (wrongOf (h .params .k) (h .params .d) (sharesAt bs p)) opened)

@@ -16,7 +16,8 @@ use Rattle.bundle.specs.Bundle.{bundleHeading, paramsOf, numOf, jobAt, mostJobs
 use Rattle.bundle.specs.declared.Accepted.{Accepted}
 use Rattle.bundle.proofs.Bundles.{bundle-ok, bundle-ranges}
 use Rattle.archive.specs.Archive.{sharesAt, placeOpening}
-use Rattle.text.specs.Text.{ascii, decimal, joined, holdersText, wordsText, headLine, refusedLine, jobLine, openLine, declinedLine}
+use Rattle.decimal.specs.Decimal.{ascii, decimal}
+use Rattle.text.specs.Text.{joined, holdersText, wordsText, headLine, refusedLine, jobLine, openLine, declinedLine}
 use Rattle.text.proofs.Runs.{run-add, run-empty}
 use Rattle.listing.specs.Listing.{lineBy, lineOf, linesFrom, inputFault, unlessRefused, listingOf}
 use Rattle.listing.specs.Pieces.{pieceBy, piece, piecesIn, piecesFrom, acceptedInput, printerAt}

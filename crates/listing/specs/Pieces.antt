@@ -30,14 +30,13 @@ unfoldable pub piecesFrom : List ℕ → ℕ → ℕ → List ℕ
 piecesFrom bs i zero = []
 piecesFrom bs i (suc n) = piece bs i ++ piecesFrom bs (suc i) n
 
--- what accepting an input gives: as accepting its bytes does, but by the input's fault
+-- what accepting bytes gives, by a fault
+abbrev pub acceptedBy : ℕ → List ℕ → Accepted
+acceptedBy c bs = record { fault = c; files = kept c 0 (filesOf bs); heading = kept c noHeading (bundleHeading bs) }
+
+-- an input: as accepting its bytes does, but by the input's fault
 unfoldable pub acceptedInput : List ℕ → Accepted
-acceptedInput bs =
-    record {
-      fault = inputFault bs;
-      files = kept (inputFault bs) 0 (filesOf bs);
-      heading = kept (inputFault bs) noHeading (bundleHeading bs);
-    }
+acceptedInput bs = acceptedBy (inputFault bs) bs
 
 -- the printer of an input before piece i; past the last it stays
 unfoldable pub printerAt : List ℕ → ℕ → Printer

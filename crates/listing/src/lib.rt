@@ -5,7 +5,8 @@ ghost use Prim.Native.Nat.{_+_, _≤_, _<_};
 ghost use lib.ListN.{length};
 ghost use Rattle.words.specs.Refusal.{kept};
 ghost use Rattle.bundle.specs.Bundle.{bundleFault, bundleHeading, filesOf};
-ghost use Rattle.text.specs.Text.{written, lineRoom};
+ghost use Rattle.decimal.specs.Decimal.{written};
+ghost use Rattle.text.specs.Text.{lineRoom};
 ghost use Rattle.listing.specs.Listing.{lineOf, lineFault};
 ghost use Rattle.listing.specs.Pieces.{piece, acceptedInput, printerAt};
 use bundle::Accepted;
@@ -100,6 +101,16 @@ pub fn accept_input(bytes: &[u8]) -> Accepted
         return bundle::refused(words::LENGTH);
     }
     bundle::accept(bytes)
+}
+
+// How many pieces a text has with one for each place, or one for the refusal.
+pub fn count_pieces(accepted: Accepted) -> usize
+    ensures { λ r. ⌜ r ≡ kept (accepted .fault) 1 (accepted .heading .jobs) ⌝ }
+{
+    if accepted.fault != 0 {
+        return 1;
+    }
+    accepted.heading.jobs
 }
 
 // The printer of an input's text.

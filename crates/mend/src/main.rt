@@ -20,7 +20,7 @@ fn print(bytes: &[u8], accepted: Accepted, out: &mut [u8]) -> bool
     ensures { λ r. ⌜ (r ≡ true → now (out .exit) ≡ outputAt (now (bytes .entry)) (reportPieces (now (bytes .entry)))) ⌝ }
 {
     let mut text = [0u8; text::REPORT];
-    let pieces = mending::pieces(accepted);
+    let pieces = listing::count_pieces(accepted);
     let mut i: usize = 0;
     while i < pieces {
         let size = mending::put_piece(bytes, accepted, i, out, &mut text);

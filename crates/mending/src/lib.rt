@@ -11,7 +11,8 @@ ghost use Rattle.codewords.specs.Demand.{bitFor};
 ghost use Rattle.codewords.specs.Opening.{faultOf, wrongOf, openingIn};
 ghost use Rattle.bundle.specs.Bundle.{bundleFault, bundleHeading, filesOf};
 ghost use Rattle.archive.specs.Archive.{sharesAt, placeOpening};
-ghost use Rattle.text.specs.Text.{written, reportRoom};
+ghost use Rattle.decimal.specs.Decimal.{written};
+ghost use Rattle.text.specs.Text.{reportRoom};
 ghost use Rattle.listing.specs.Pieces.{acceptedInput};
 ghost use Rattle.mending.specs.Mended.{mended, mendFault};
 ghost use Rattle.mending.specs.Progress.{mendedTo, outputAt};
@@ -140,16 +141,6 @@ pub fn start(bytes: &[u8], out: &mut [u8]) -> Accepted
 {
     writer::put_bytes(out, 0, bytes);
     listing::accept_input(bytes)
-}
-
-// How many pieces an input's report has.
-pub fn pieces(accepted: Accepted) -> usize
-    ensures { λ r. ⌜ r ≡ kept (accepted .fault) 1 (accepted .heading .jobs) ⌝ }
-{
-    if accepted.fault != 0 {
-        return 1;
-    }
-    accepted.heading.jobs
 }
 
 // Mends the job at a place of an accepted bundle, and writes its lines from the start of a lent text.

@@ -4,7 +4,8 @@ use mathlib.Core.List.{[], _∷_, _++_, map}
 use Prim.Native.Nat.{_^_, _-_}
 use lib.ListN.{replicate}
 use Rattle.words.specs.Signed.{signedOf}
-use Rattle.text.specs.Text.{ascii, digits, decimal, signedText, afterCommas, joined, holdersFrom, holders, holderText}
+use Rattle.decimal.specs.Decimal.{ascii, digits, decimal, signedText}
+use Rattle.text.specs.Text.{afterCommas, joined, holdersFrom, holders, holderText}
 use Rattle.text.specs.Text.{headLine, refusedLine, jobLine, openLine, declinedLine}
 
 -- "10 open 3/2 -3,2" and "11 6 - -", of words of 3 bits

@@ -1,15 +1,14 @@
 -- Texts joined by commas, as a loop writes them one after another: the holders of a set, the signed words. Assumes nothing.
 use mathlib.Core.Path.{_≡_, refl, ap, _∙_}
-use mathlib.Core.Bool.{true, false}
 use mathlib.Core.List.{List, [], _∷_, _++_, map}
 use Prim.Native.Nat.{ℕ, zero, suc, _+_, _-_, _/_, _^_, _≤_, _<_}
 use native.Mathlib.Nat.{not-suc-le-zero, le-of-suc-le-suc, zero-lt-suc}
 use lib.ListN.{length, take, drop, getD, length-map}
 use lib.Seq.{drop-cons, getD-take, length-take-le}
-use Rattle.words.specs.declared.Signed.{Signed}
 use Rattle.words.specs.Signed.{signedOf}
 use lib.Count.{trailingZeros}
-use Rattle.text.specs.Text.{decimal, signedText, afterCommas, joined, holdersFrom, holders, holderText, holdersText, readings}
+use Rattle.decimal.specs.Decimal.{signedText}
+use Rattle.text.specs.Text.{afterCommas, joined, holdersFrom, holders, holderText, holdersText, readings}
 use Rattle.text.proofs.Holders.{next-holder}
 
 -- what follows a comma is joined again
@@ -21,15 +20,6 @@ comma (text ∷ texts) h = refl
 pub joined-at : (texts : List (List ℕ)) (i : ℕ) → i < length texts → joined (drop i texts) ≡ getD texts i [] ++ afterCommas (drop (suc i) texts)
 unfolding joined
 joined-at texts i h = rw (drop-cons texts i [] h)
-
--- a negative value has a minus sign, and no other has one
-pub negative-text : (s : Signed) → s .negative ≡ true → signedText s ≡ (45 ∷ []) ++ decimal (s .magnitude)
-unfolding signedText
-negative-text s e = rw e
-
-pub positive-text : (s : Signed) → s .negative ≡ false → signedText s ≡ decimal (s .magnitude)
-unfolding signedText
-positive-text s e = rw e
 
 -- nobody
 pub nobody : (i n : ℕ) → holdersFrom i n 0 ≡ []

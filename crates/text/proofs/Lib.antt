@@ -1,5 +1,3 @@
-pub mod Written
-pub mod Decimal
 pub mod Holders
 pub mod Joined
 pub mod Lines

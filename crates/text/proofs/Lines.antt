@@ -11,10 +11,12 @@ use lib.ListN.{length, getD, length-append}
 use lib.Count.{trailingZeros}
 use Rattle.words.specs.declared.Signed.{Signed}
 use Rattle.words.specs.Signed.{signedOf}
-use Rattle.text.specs.Text.{ascii, decimal, signedText, afterCommas, joined, holdersFrom, holders, holderText, holdersText, wordsText}
+use Rattle.decimal.specs.Decimal.{ascii, decimal, signedText}
+use Rattle.text.specs.Text.{afterCommas, joined, holdersFrom, holders, holderText, holdersText, wordsText}
 use Rattle.text.specs.Text.{lineRoom, refusedLine, jobLine, openLine, declinedLine}
 use Rattle.text.specs.Text.{reportRoom, changedLine, changedLines, keptLine}
-use Rattle.text.proofs.Decimal.{decimal-length}
+use Rattle.decimal.proofs.Decimal.{decimal-length, twenty}
+use Rattle.decimal.proofs.Signed.{signed-length}
 use Rattle.text.proofs.Holders.{next-holder}
 use Rattle.text.proofs.Joined.{nobody}
 
@@ -42,9 +44,6 @@ unfolding refusedLine
 refused-parts n = refl
 
 -- ---- how long they are
-
-pub twenty : (x : ℕ) → x ≤ 2 ^ 64 → length (decimal x) ≤ 20
-twenty x h = decimal-length 19 x (omega arith)
 
 -- joined texts are no longer than those after commas, or a `-`
 joined-length : (texts : List (List ℕ)) → length (joined texts) ≤ length (afterCommas texts) + 1
@@ -96,28 +95,17 @@ magnitude-le k w = by (ltb w (2 ^ (k - 1))) refl
     by true e = omega (arith, ltb-true w (2 ^ (k - 1)) e, pow-le-pow-right {n = 2} (lit< tt) {i = k - 1} {j = k} (omega arith))
     by false e = omega arith
 
-signed-length : (k w : ℕ) → k ≤ 64 → length (signedText (signedOf k w)) ≤ 21
-unfolding signedText
-signed-length k w h =
-    let s = signedOf k w in
+word-length : (k w : ℕ) → k ≤ 64 → length (signedText (signedOf k w)) ≤ 21
+word-length k w h =
     let p : 2 ^ k ≤ 2 ^ 64 = pow-le-pow-right {n = 2} (lit< tt) {i = k} {j = 64} h in
-    omega (
-      arith,
-      length-append (cond (s .negative) (ascii "-") []) (decimal (s .magnitude)),
-      sign (s .negative),
-      twenty (s .magnitude) (le-trans (magnitude-le k w) p),
-    )
-  where
-    sign : (b : Bool) → length (cond b (ascii "-") []) ≤ 1
-    sign true = omega arith
-    sign false = omega arith
+    signed-length (signedOf k w) (le-trans (magnitude-le k w) p)
 
 words-after : (k : ℕ) (ws : List ℕ) → k ≤ 64 → length (afterCommas (map signedText (map (signedOf k) ws))) ≤ length ws * 22
 unfolding afterCommas
 words-after k [] h = omega arith
 words-after k (w ∷ ws) h =
     omega
-    (arith, words-after k ws h, signed-length k w h, length-append (signedText (signedOf k w)) (afterCommas (map signedText (map (signedOf k) ws))))
+    (arith, words-after k ws h, word-length k w h, length-append (signedText (signedOf k w)) (afterCommas (map signedText (map (signedOf k) ws))))
 
 pub words-length : (k : ℕ) (ws : List ℕ) → k ≤ 64 → length ws ≤ 6 → length (wordsText (map (signedOf k) ws)) ≤ 133
 words-length k ws h l = omega (arith, joined-length (map signedText (map (signedOf k) ws)), words-after k ws h)

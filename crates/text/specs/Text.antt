@@ -1,38 +1,12 @@
 -- The text of the listing as bytes, paper 01, "The opened bundle", and paper 02, K4; and of the report of `mend`, paper 02, K2. Assumes nothing.
-use Prim.Native.Nat.{ℕ, zero, suc, _+_, _-_, _/_, _%_}
-use Prim.Native.Char.{code}
-use Prim.Native.String.{String, [] as []ₛ, _∷_ as _∷ₛ_}
+use Prim.Native.Nat.{ℕ, zero, suc, _-_, _/_, _%_}
 use mathlib.Core.Bool.{cond}
 use mathlib.Core.List.{List, [], _∷_, _++_, map}
 use lib.Dec.{eqb}
-use lib.ListN.{length, take, drop, getD}
+use lib.ListN.{take, getD}
 use Rattle.words.specs.declared.Signed.{Signed}
 use Rattle.words.specs.Signed.{signedOf}
-
--- the bytes of an ASCII text
-abbrev pub ascii : String → List ℕ
-ascii []ₛ = []
-ascii (c ∷ₛ s) = code c ∷ ascii s
-
--- a buffer with a text written over it from a position on
-abbrev pub written : ℕ → List ℕ → List ℕ → List ℕ
-written at text old = take at old ++ text ++ drop (at + length text) old
-
--- "Numbers in this paper are decimal": the digits of a number, none of 0, and no more than n
-unfoldable pub digits : ℕ → ℕ → List ℕ
-digits zero x = []
-digits (suc n) zero = []
-digits (suc n) (suc x) = digits n (suc x / 10) ++ (48 + suc x % 10) ∷ []
-
--- and a last digit in any case
-unfoldable pub decimal : ℕ → List ℕ
-unfolding digits
-decimal x = digits x (x / 10) ++ (48 + x % 10) ∷ []
-
--- "the signed words": a minus sign before a negative value
-unfoldable pub signedText : Signed → List ℕ
-unfolding decimal
-signedText s = cond (s .negative) (ascii "-") [] ++ decimal (s .magnitude)
+use Rattle.decimal.specs.Decimal.{ascii, decimal, signedText}
 
 -- "joined by commas, or `-`"
 unfoldable pub afterCommas : List (List ℕ) → List ℕ

@@ -1,11 +1,11 @@
 // The text of the listing and of the report of `mend`: each function writes its text into a lent buffer from `at` on and gives the position after it.
 ghost use mathlib.Core.Path.{_≡_};
 ghost use mathlib.Core.Bool.{true};
-ghost use mathlib.Core.List.{[], _∷_};
 ghost use Prim.Native.Nat.{_+_, _≤_};
 ghost use lib.ListN.{length, take};
 ghost use Rattle.words.specs.Word.{allInWidth};
-ghost use Rattle.text.specs.Text.{written, decimal, signedText, holderText, holdersText, wordsText, readings};
+ghost use Rattle.decimal.specs.Decimal.{written};
+ghost use Rattle.text.specs.Text.{holderText, holdersText, wordsText, readings};
 ghost use Rattle.text.specs.Text.{lineRoom, headLine, refusedLine, openLine, declinedLine};
 ghost use Rattle.text.specs.Text.{holders, reportRoom, changedLine, changedLines, keptLine};
 
@@ -15,58 +15,15 @@ pub const LINE: usize = 1024;
 // The lines of a job in the report of `mend` fit into so many: the definition's reportRoom.
 pub const REPORT: usize = 2048;
 
-pub fn put_byte(out: &mut [u8], at: usize, b: u8) -> usize
-    requires { ⌜ at + 1 ≤ length (now out) ⌝ }
-    ensures { λ r. ⌜ (now (out .exit) ≡ written at (b ∷ []) (now (out .entry))) × (r ≡ at + 1) ⌝ }
-{
-    out[at] = b;
-    at + 1
-}
-
-pub fn put_bytes(out: &mut [u8], at: usize, s: &[u8]) -> usize
-    requires { ⌜ at + length (now s) ≤ length (now out) ⌝ }
-    ensures { λ r. ⌜ (now (out .exit) ≡ written at (now (s .entry)) (now (out .entry))) × (r ≡ at + length (now (s .entry))) ⌝ }
-{
-    let mut i = 0;
-    while i < s.len() {
-        out[at + i] = s[i];
-        i += 1;
-    }
-    at + s.len()
-}
-
-// The digits before the last one are those of a tenth of the number.
-pub fn put_decimal(out: &mut [u8], at: usize, x: u64) -> usize
-    requires { ⌜ at + length (decimal x) ≤ length (now out) ⌝ }
-    ensures { λ r. ⌜ (now (out .exit) ≡ written at (decimal x) (now (out .entry))) × (r ≡ at + length (decimal x)) ⌝ }
-{
-    if x < 10 {
-        return put_byte(out, at, 48 + x as u8);
-    }
-    let p = put_decimal(out, at, x / 10);
-    put_byte(out, p, 48 + (x % 10) as u8)
-}
-
-pub fn put_signed(out: &mut [u8], at: usize, s: words::Signed) -> usize
-    requires { ⌜ at + length (signedText s) ≤ length (now out) ⌝ }
-    ensures { λ r. ⌜ (now (out .exit) ≡ written at (signedText s) (now (out .entry))) × (r ≡ at + length (signedText s)) ⌝ }
-{
-    if s.negative {
-        let p = put_byte(out, at, b'-');
-        return put_decimal(out, p, s.magnitude);
-    }
-    put_decimal(out, at, s.magnitude)
-}
-
 // A holder, a slash and the position of the lowest bit at which its share differs.
 fn put_holder(out: &mut [u8], at: usize, holder: u64, lowest: &[u8]) -> usize
     requires { ⌜ ((1 ≤ holder) × (holder ≤ length (now lowest))) × (at + length (holderText (now lowest) holder) ≤ length (now out)) ⌝ }
     ensures { λ r. ⌜ (now (out .exit) ≡ written at (holderText (now (lowest .entry)) holder) (now (out .entry)))
         × (r ≡ at + length (holderText (now (lowest .entry)) holder)) ⌝ }
 {
-    let p = put_decimal(out, at, holder);
-    let q = put_byte(out, p, b'/');
-    put_decimal(out, q, lowest[(holder - 1) as usize] as u64)
+    let p = decimal::put_decimal(out, at, holder);
+    let q = decimal::put_byte(out, p, b'/');
+    decimal::put_decimal(out, q, lowest[(holder - 1) as usize] as u64)
 }
 
 // The holders of a set with their positions, rising, joined by commas: each turn writes the lowest one and takes it off.
@@ -76,7 +33,7 @@ pub fn put_holders(out: &mut [u8], at: usize, set: u64, lowest: &[u8]) -> usize
         × (r ≡ at + length (holdersText (now (lowest .entry)) set)) ⌝ }
 {
     if set == 0 {
-        return put_byte(out, at, b'-');
+        return decimal::put_byte(out, at, b'-');
     }
     let mut p = at;
     let mut w = set;
@@ -89,7 +46,7 @@ pub fn put_holders(out: &mut [u8], at: usize, set: u64, lowest: &[u8]) -> usize
         if w == 0 {
             return p;
         }
-        p = put_byte(out, p, b',');
+        p = decimal::put_byte(out, p, b',');
     }
 }
 
@@ -103,12 +60,12 @@ pub fn put_words(out: &mut [u8], at: usize, k: u64, d: usize, words: [u64; 6]) -
     let mut end = at;
     let mut i = 0;
     loop {
-        end = put_signed(out, end, words::read_signed(k, words[i]));
+        end = decimal::put_signed(out, end, words::read_signed(k, words[i]));
         i += 1;
         if i == d {
             return end;
         }
-        end = put_byte(out, end, b',');
+        end = decimal::put_byte(out, end, b',');
     }
 }
 
@@ -117,7 +74,7 @@ pub fn put_head(out: &mut [u8], at: usize) -> usize
     requires { ⌜ at + lineRoom ≤ length (now out) ⌝ }
     ensures { λ r. ⌜ (now (out .exit) ≡ written at headLine (now (out .entry))) × (r ≡ at + length headLine) ⌝ }
 {
-    put_bytes(out, at, b"job state wrong words\n")
+    decimal::put_bytes(out, at, b"job state wrong words\n")
 }
 
 // The one line of a declined bundle.
@@ -125,9 +82,9 @@ pub fn put_refused(out: &mut [u8], at: usize, n: u8) -> usize
     requires { ⌜ at + lineRoom ≤ length (now out) ⌝ }
     ensures { λ r. ⌜ (now (out .exit) ≡ written at (refusedLine n) (now (out .entry))) × (r ≡ at + length (refusedLine n)) ⌝ }
 {
-    let p = put_bytes(out, at, b"refused ");
-    let q = put_decimal(out, p, n as u64);
-    put_byte(out, q, b'\n')
+    let p = decimal::put_bytes(out, at, b"refused ");
+    let q = decimal::put_decimal(out, p, n as u64);
+    decimal::put_byte(out, q, b'\n')
 }
 
 // The line of a job that opened.
@@ -146,12 +103,12 @@ pub fn put_open_line(
     ensures { λ r. ⌜ (now (out .exit) ≡ written at (openLine number wrong (now (lowest .entry)) (readings k d words)) (now (out .entry)))
         × (r ≡ at + length (openLine number wrong (now (lowest .entry)) (readings k d words))) ⌝ }
 {
-    let p = put_decimal(out, at, number);
-    let q = put_bytes(out, p, b" open ");
+    let p = decimal::put_decimal(out, at, number);
+    let q = decimal::put_bytes(out, p, b" open ");
     let r = put_holders(out, q, wrong, lowest);
-    let s = put_byte(out, r, b' ');
+    let s = decimal::put_byte(out, r, b' ');
     let t = put_words(out, s, k, d, words);
-    put_byte(out, t, b'\n')
+    decimal::put_byte(out, t, b'\n')
 }
 
 // The line of a job that did not open, with the number that says why.
@@ -160,10 +117,10 @@ pub fn put_declined_line(out: &mut [u8], at: usize, number: u64, state: u8) -> u
     ensures { λ r. ⌜ (now (out .exit) ≡ written at (declinedLine number state) (now (out .entry)))
         × (r ≡ at + length (declinedLine number state)) ⌝ }
 {
-    let p = put_decimal(out, at, number);
-    let q = put_byte(out, p, b' ');
-    let r = put_decimal(out, q, state as u64);
-    put_bytes(out, r, b" - -\n")
+    let p = decimal::put_decimal(out, at, number);
+    let q = decimal::put_byte(out, p, b' ');
+    let r = decimal::put_decimal(out, q, state as u64);
+    decimal::put_bytes(out, r, b" - -\n")
 }
 
 // The line of a changed place.
@@ -172,10 +129,10 @@ fn put_changed(out: &mut [u8], at: usize, number: u64, holder: u64) -> usize
     ensures { λ r. ⌜ (now (out .exit) ≡ written at (changedLine number holder) (now (out .entry)))
         × (r ≡ at + length (changedLine number holder)) ⌝ }
 {
-    let p = put_decimal(out, at, number);
-    let q = put_bytes(out, p, b" holder ");
-    let r = put_decimal(out, q, holder);
-    put_byte(out, r, b'\n')
+    let p = decimal::put_decimal(out, at, number);
+    let q = decimal::put_bytes(out, p, b" holder ");
+    let r = decimal::put_decimal(out, q, holder);
+    decimal::put_byte(out, r, b'\n')
 }
 
 // The lines of a job's changed places, holders rising: each turn writes the line of the lowest one and takes it off.
@@ -201,7 +158,7 @@ pub fn put_kept(out: &mut [u8], at: usize, number: u64, n: u8) -> usize
     requires { ⌜ at + reportRoom ≤ length (now out) ⌝ }
     ensures { λ r. ⌜ (now (out .exit) ≡ written at (keptLine number n) (now (out .entry))) × (r ≡ at + length (keptLine number n)) ⌝ }
 {
-    let p = put_decimal(out, at, number);
-    let q = put_byte(out, p, b' ');
+    let p = decimal::put_decimal(out, at, number);
+    let q = decimal::put_byte(out, p, b' ');
     put_refused(out, q, n)
 }

@@ -17,7 +17,7 @@ use Rattle.words.specs.Faults.{signedFault}
 use Rattle.words.specs.Signed.{meaning, signedOf, integer, twosComplement, int64, sumOfMeanings, sumOf}
 use Rattle.words.proofs.Signs.{signed-clear}
 
-two-halves : (k : ℕ) → 1 ≤ k → 2 ^ k ≡ 2 ^ (k - 1) + 2 ^ (k - 1)
+pub two-halves : (k : ℕ) → 1 ≤ k → 2 ^ k ≡ 2 ^ (k - 1) + 2 ^ (k - 1)
 two-halves zero h = absurd (not-suc-le-zero h)
 two-halves (suc k) h =
     let e : suc k - 1 ≡ k = omega arith in

@@ -34,6 +34,10 @@ OUT-OF-RANGE = 9
 abbrev pub DESK-CLOSED : ℕ
 DESK-CLOSED = 10
 
+-- K6: "11 text"
+abbrev pub TEXT : ℕ
+TEXT = 11
+
 -- the first of two faults
 unfoldable pub first : ℕ → ℕ → ℕ
 first zero b = b

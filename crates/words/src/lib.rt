@@ -30,6 +30,8 @@ pub const OUT_OF_RANGE: u8 = 9;
 
 pub const DESK_CLOSED: u8 = 10;
 
+pub const TEXT: u8 = 11;
+
 // The parameters of an archive (paper 01: a book): bits of a word, words of an element, holders, degree.
 pub struct Params {
     pub k: u64,

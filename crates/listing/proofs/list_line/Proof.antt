@@ -12,7 +12,8 @@ use Rattle.words.proofs.Fill.{set-single}
 use Rattle.words.proofs.Refusal.{kept-none, kept-some}
 use Rattle.bundle.proofs.Bundles.{accept-none, accept-files, accept-heading}
 use Rattle.fetch.specs.Fetch.{placeFault}
-use Rattle.text.specs.Text.{written, lineRoom}
+use Rattle.decimal.specs.Decimal.{written}
+use Rattle.text.specs.Text.{lineRoom}
 use Rattle.listing.specs.Listing.{lineOf, lineFault}
 use Rattle.listing.proofs.OneLine.{line-refused, line-told, line-size, line-fits, line-place}
 use Rattle.listing.proofs.list_line.Statement.{statement}

@@ -11,7 +11,7 @@ use Rattle.codewords.specs.Codeword.{Polynomial, positions}
 use Rattle.codewords.proofs.Positions.{positions-length, positions-bytes}
 use Rattle.rounds.proofs.Rows.{zero-shaped}
 use Rattle.text.specs.Text.{openLine, declinedLine, readings}
-use Rattle.text.proofs.Written.{wrote-line}
+use Rattle.decimal.proofs.Written.{wrote-line}
 use Rattle.text.proofs.Lines.{open-length, declined-length}
 use Rattle.bundle.proofs.Bundles.{bundle-ok, ranges-of}
 use Rattle.bundle.proofs.Headings.{Ranges}

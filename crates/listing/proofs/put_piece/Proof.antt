@@ -6,8 +6,9 @@ use Prim.Native.Nat.{ℕ}
 use native.Mathlib.Omega.{arith}
 use lib.ListN.{length}
 use denote.Ref.{now}
-use Rattle.text.specs.Text.{written, headLine, refusedLine}
-use Rattle.text.proofs.Written.{wrote-line}
+use Rattle.decimal.specs.Decimal.{written}
+use Rattle.text.specs.Text.{headLine, refusedLine}
+use Rattle.decimal.proofs.Written.{wrote-line}
 use Rattle.text.proofs.Lines.{refused-length}
 use Rattle.listing.specs.Pieces.{piece}
 use Rattle.listing.proofs.Lines.{wrote-none}

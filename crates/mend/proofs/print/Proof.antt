@@ -25,13 +25,13 @@ abbrev bs : tie.Start Inv-loop μ-loop → List ℕ
 bs s = now (s .args .bytes)
 
 -- the count is that of the input's report
-count : (c : tie.After-pieces Inv-loop μ-loop) → c .pieces .result ≡ reportPieces (bs (c .before .before .before))
+count : (c : tie.After-count-pieces Inv-loop μ-loop) → c .count-pieces .result ≡ reportPieces (bs (c .before .before .before))
 count c =
     let s = c .before .before .before in
-    c .pieces .ensures ∙ pieces-count (bs s) (s .args .accepted) (s .pre .0)
+    c .count-pieces .ensures ∙ pieces-count (bs s) (s .args .accepted) (s .pre .0)
 
-pieces-requires : tie.Need-pieces-requires Inv-loop μ-loop
-pieces-requires c κs = search needs
+count-pieces-requires : tie.Need-count-pieces-requires Inv-loop μ-loop
+count-pieces-requires c κs = search needs
 
 loop-holds : tie.Need-loop-holds Inv-loop μ-loop
 loop-holds c = (search needs, c .before .before .before .pre .1, refl, refl)
@@ -90,7 +90,7 @@ print-spec =
     (tie.spec
     Inv-loop
     μ-loop
-    pieces-requires
+    count-pieces-requires
     loop-holds
     slice-aggregate-put-piece
     put-piece-requires

@@ -7,8 +7,9 @@ use native.Mathlib.Omega.{arith}
 use lib.ListN.{length}
 use denote.Ref.{now}
 use Rattle.records.specs.declared.Heading.{Heading}
-use Rattle.text.specs.Text.{written, refusedLine}
-use Rattle.text.proofs.Written.{wrote-line}
+use Rattle.decimal.specs.Decimal.{written}
+use Rattle.text.specs.Text.{refusedLine}
+use Rattle.decimal.proofs.Written.{wrote-line}
 use Rattle.text.proofs.Lines.{refused-length}
 use Rattle.listing.specs.Listing.{inputFault}
 use Rattle.listing.proofs.Input.{fault-is, input-none, input-heading, input-files}

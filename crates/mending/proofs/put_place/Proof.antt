@@ -5,7 +5,7 @@ use Prim.Native.Nat.{ℕ}
 use native.Mathlib.Omega.{arith}
 use denote.Ref.{now}
 use Rattle.text.specs.Text.{holders, changedLines, keptLine}
-use Rattle.text.proofs.Written.{wrote-line}
+use Rattle.decimal.proofs.Written.{wrote-line}
 use Rattle.text.proofs.Lines.{changes-length, kept-length}
 use Rattle.mending.specs.Report.{changesAt}
 use Rattle.mending.proofs.Changes.{changes-kept, changes-opened}

@@ -3,16 +3,17 @@ use native.Mathlib.Omega.{arith}
 use mathlib.Core.List.{List, _++_}
 use Prim.Native.Nat.{ℕ, _+_, _≤_}
 use lib.ListN.{length, length-append}
-use Rattle.text.specs.Text.{ascii, decimal, changedLine}
-use Rattle.text.proofs.Written.{Part, part-room, part-more}
+use Rattle.decimal.specs.Decimal.{ascii, decimal}
+use Rattle.text.specs.Text.{changedLine}
+use Rattle.decimal.proofs.Written.{Part, part-room, part-more}
 use borrow.Author.Needs.{needs}
 use Rattle.text.proofs.put_changed.Statement.{statement}
 use Rattle.text.proofs.put_changed.Tie as tie
 use Rattle.text.proofs.put_changed.Reads as reads
 use Rattle.text.proofs.put_changed.Lts as lts
-use Rattle.text.proofs.put_byte.Reads as put-byte-reads
-use Rattle.text.proofs.put_bytes.Reads as put-bytes-reads
-use Rattle.text.proofs.put_decimal.Reads as put-decimal-reads
+use Rattle.decimal.proofs.put_byte.Reads as put-byte-reads
+use Rattle.decimal.proofs.put_bytes.Reads as put-bytes-reads
+use Rattle.decimal.proofs.put_decimal.Reads as put-decimal-reads
 
 -- the bytes of its four parts
 abbrev digits : tie.Start → ℕ

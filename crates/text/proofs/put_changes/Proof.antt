@@ -8,7 +8,7 @@ use native.Mathlib.Nat.{pos-of-ne-zero}
 use lib.ListN.{length, length-append}
 use lib.Count.{trailingZeros}
 use Rattle.text.specs.Text.{holders, changedLine, changedLines}
-use Rattle.text.proofs.Written.{Left, left-all, left-more, left-none}
+use Rattle.decimal.proofs.Written.{Left, left-all, left-more, left-none}
 use Rattle.text.proofs.Holders.{next-room, next-lt}
 use Rattle.text.proofs.Lines.{changes-length, restLines, changes-next, changes-last}
 use Rattle.text.proofs.put_changes.Statement.{statement}

@@ -3,15 +3,16 @@ use native.Mathlib.Omega.{arith}
 use mathlib.Core.List.{List, _++_}
 use Prim.Native.Nat.{ℕ, _+_, _-_, _≤_}
 use lib.ListN.{length, getD, length-append}
-use Rattle.text.specs.Text.{ascii, decimal, holderText}
-use Rattle.text.proofs.Written.{Wrote, wrote-more}
+use Rattle.decimal.specs.Decimal.{ascii, decimal}
+use Rattle.text.specs.Text.{holderText}
+use Rattle.decimal.proofs.Written.{Wrote, wrote-more}
 use borrow.Author.Needs.{needs}
 use Rattle.text.proofs.put_holder.Statement.{statement}
 use Rattle.text.proofs.put_holder.Tie as tie
 use Rattle.text.proofs.put_holder.Reads as reads
 use Rattle.text.proofs.put_holder.Lts as lts
-use Rattle.text.proofs.put_byte.Reads as put-byte-reads
-use Rattle.text.proofs.put_decimal.Reads as put-decimal-reads
+use Rattle.decimal.proofs.put_byte.Reads as put-byte-reads
+use Rattle.decimal.proofs.put_decimal.Reads as put-decimal-reads
 
 abbrev holder : tie.Start → List ℕ
 holder s = decimal (s .args .holder)

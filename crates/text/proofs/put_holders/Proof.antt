@@ -7,14 +7,14 @@ use native.Mathlib.Nat.{pos-of-ne-zero}
 use lib.ListN.{length, length-append}
 use lib.Count.{trailingZeros}
 use Rattle.text.specs.Text.{holders, holderText, holdersText}
-use Rattle.text.proofs.Written.{Left, left-all, left-more, left-none}
+use Rattle.decimal.proofs.Written.{Left, left-all, left-more, left-none}
 use Rattle.text.proofs.Holders.{next-room, next-lt}
 use Rattle.text.proofs.Joined.{restText, afterText, no-holders, holders-next, holders-last, holders-comma}
 use Rattle.text.proofs.put_holders.Statement.{statement}
 use Rattle.text.proofs.put_holders.Tie as tie
 use Rattle.text.proofs.put_holders.Reads as reads
 use Rattle.text.proofs.put_holders.Lts as lts
-use Rattle.text.proofs.put_byte.Reads as put-byte-reads
+use Rattle.decimal.proofs.put_byte.Reads as put-byte-reads
 use Rattle.text.proofs.put_holder.Reads as put-holder-reads
 
 abbrev Inv-loop : tie.InvT-loop

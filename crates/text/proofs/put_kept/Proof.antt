@@ -2,16 +2,18 @@
 use native.Mathlib.Omega.{arith}
 use mathlib.Core.List.{List, _++_}
 use Prim.Native.Nat.{ℕ, _+_}
-use Rattle.text.specs.Text.{ascii, decimal, lineRoom, refusedLine, keptLine}
-use Rattle.text.proofs.Written.{Part, part-room, part-more}
-use Rattle.text.proofs.Lines.{twenty, refused-length}
+use Rattle.decimal.specs.Decimal.{ascii, decimal}
+use Rattle.text.specs.Text.{lineRoom, refusedLine, keptLine}
+use Rattle.decimal.proofs.Written.{Part, part-room, part-more}
+use Rattle.decimal.proofs.Decimal.{twenty}
+use Rattle.text.proofs.Lines.{refused-length}
 use borrow.Author.Needs.{needs}
 use Rattle.text.proofs.put_kept.Statement.{statement}
 use Rattle.text.proofs.put_kept.Tie as tie
 use Rattle.text.proofs.put_kept.Reads as reads
 use Rattle.text.proofs.put_kept.Lts as lts
-use Rattle.text.proofs.put_byte.Reads as put-byte-reads
-use Rattle.text.proofs.put_decimal.Reads as put-decimal-reads
+use Rattle.decimal.proofs.put_byte.Reads as put-byte-reads
+use Rattle.decimal.proofs.put_decimal.Reads as put-decimal-reads
 use Rattle.text.proofs.put_refused.Reads as put-refused-reads
 
 -- the line so far, of at most n bytes

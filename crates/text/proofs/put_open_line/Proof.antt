@@ -2,18 +2,20 @@ use native.Mathlib.Omega.{arith}
 use mathlib.Core.List.{List, _++_}
 use Prim.Native.Nat.{ℕ, _≤_}
 use lib.ListN.{length, take, length-take}
-use Rattle.text.specs.Text.{ascii, decimal, holdersText, wordsText, readings}
-use Rattle.text.proofs.Written.{Part, part-room, part-more}
-use Rattle.text.proofs.Lines.{twenty, holders-length, words-length, open-parts}
+use Rattle.decimal.specs.Decimal.{ascii, decimal}
+use Rattle.text.specs.Text.{holdersText, wordsText, readings}
+use Rattle.decimal.proofs.Written.{Part, part-room, part-more}
+use Rattle.decimal.proofs.Decimal.{twenty}
+use Rattle.text.proofs.Lines.{holders-length, words-length, open-parts}
 use Rattle.words.specs.declared.Signed.{Signed}
 use borrow.Author.Needs.{needs}
 use Rattle.text.proofs.put_open_line.Statement.{statement}
 use Rattle.text.proofs.put_open_line.Tie as tie
 use Rattle.text.proofs.put_open_line.Reads as reads
 use Rattle.text.proofs.put_open_line.Lts as lts
-use Rattle.text.proofs.put_byte.Reads as put-byte-reads
-use Rattle.text.proofs.put_bytes.Reads as put-bytes-reads
-use Rattle.text.proofs.put_decimal.Reads as put-decimal-reads
+use Rattle.decimal.proofs.put_byte.Reads as put-byte-reads
+use Rattle.decimal.proofs.put_bytes.Reads as put-bytes-reads
+use Rattle.decimal.proofs.put_decimal.Reads as put-decimal-reads
 use Rattle.text.proofs.put_holders.Reads as put-holders-reads
 use Rattle.text.proofs.put_words.Reads as put-words-reads
 

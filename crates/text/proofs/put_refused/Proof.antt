@@ -1,17 +1,18 @@
 use native.Mathlib.Omega.{arith}
 use mathlib.Core.List.{List, _++_}
 use Prim.Native.Nat.{ℕ}
-use Rattle.text.specs.Text.{ascii, decimal}
-use Rattle.text.proofs.Written.{Part, part-room, part-more}
-use Rattle.text.proofs.Lines.{twenty, refused-parts}
+use Rattle.decimal.specs.Decimal.{ascii, decimal}
+use Rattle.decimal.proofs.Written.{Part, part-room, part-more}
+use Rattle.decimal.proofs.Decimal.{twenty}
+use Rattle.text.proofs.Lines.{refused-parts}
 use borrow.Author.Needs.{needs}
 use Rattle.text.proofs.put_refused.Statement.{statement}
 use Rattle.text.proofs.put_refused.Tie as tie
 use Rattle.text.proofs.put_refused.Reads as reads
 use Rattle.text.proofs.put_refused.Lts as lts
-use Rattle.text.proofs.put_byte.Reads as put-byte-reads
-use Rattle.text.proofs.put_bytes.Reads as put-bytes-reads
-use Rattle.text.proofs.put_decimal.Reads as put-decimal-reads
+use Rattle.decimal.proofs.put_byte.Reads as put-byte-reads
+use Rattle.decimal.proofs.put_bytes.Reads as put-bytes-reads
+use Rattle.decimal.proofs.put_decimal.Reads as put-decimal-reads
 
 -- the line so far, of at most n bytes
 abbrev Upto : tie.Start → ℕ → List ℕ → List ℕ → ℕ → Type 0

@@ -7,15 +7,16 @@ use native.Mathlib.Numerals.{add-one}
 use lib.ListN.{length, take, drop, getD, length-append, length-drop, drop-of-length-le}
 use lib.Seq.{length-take-le, getD-take}
 use Rattle.words.proofs.Width.{width-at}
-use Rattle.text.specs.Text.{signedText, afterCommas, joined}
-use Rattle.text.proofs.Written.{Left, left-all, left-more, left-none}
+use Rattle.decimal.specs.Decimal.{signedText}
+use Rattle.text.specs.Text.{afterCommas, joined}
+use Rattle.decimal.proofs.Written.{Left, left-all, left-more, left-none}
 use Rattle.text.proofs.Joined.{wordTexts, word-texts-length, word-text, comma, joined-at}
 use Rattle.text.proofs.put_words.Statement.{statement}
 use Rattle.text.proofs.put_words.Tie as tie
 use Rattle.text.proofs.put_words.Reads as reads
 use Rattle.text.proofs.put_words.Lts as lts
-use Rattle.text.proofs.put_byte.Reads as put-byte-reads
-use Rattle.text.proofs.put_signed.Reads as put-signed-reads
+use Rattle.decimal.proofs.put_byte.Reads as put-byte-reads
+use Rattle.decimal.proofs.put_signed.Reads as put-signed-reads
 use Rattle.words.proofs.read_signed.Reads as read-signed-reads
 
 abbrev Inv-loop : tie.InvT-loop

@@ -1,0 +1,3 @@
+pub mod JobText
+pub mod Reading
+pub mod Calls
