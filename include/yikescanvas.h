@@ -23,11 +23,12 @@ extern "C" {
 
 /* Why a call declines. Where several apply, the order is 1, 2, 4, 7, 3, 5, 6 for the calls on lists. A call on a bundle first reads it all, and
  * its first fault in byte order counts (7, 1, 4, 8); then come 4 for the holder named, 2, 9, 3, 5, 6. A desk's record gives 2 or 1 before the
- * bundle is read, and 10 after 9 and before 5. Opening one job, from lent shares or at a place, never gives 3: there a share with a word of 2^k
- * or more is present, and wrong. */
+ * bundle is read, and 10 after 9 and before 5. Reading job text gives 11 after 2, and writing it gives 2 for the output after 3, since the text's
+ * length depends on the words. Opening one job, from lent shares or at a place, never gives 3: there a share with a word of 2^k or more is present,
+ * and wrong. */
 enum {
     YIKES_OK = 0,
-    YIKES_PARAMETERS = 1,     /* k, d, n, t, the number of jobs or a desk's allowance is out of its range */
+    YIKES_PARAMETERS = 1,     /* k, d, n, t, the number of jobs or a desk's allowance is out of its range, or d is not 4 in a call on job text */
     YIKES_LENGTH = 2,         /* a list or an output has not the length that the call needs */
     YIKES_WIDE_WORD = 3,      /* a word that the call uses is 2^k or more, in any call but those that open one job */
     YIKES_HOLDER = 4,         /* a holder is not from 1 to n, holders do not strictly rise, or the holder named has no file in the bundle */
@@ -36,7 +37,8 @@ enum {
     YIKES_MALFORMED = 7,      /* bytes that are no bundle, file or record, or job numbers that do not strictly rise */
     YIKES_MISMATCHED = 8,     /* a file does not belong with the first */
     YIKES_OUT_OF_RANGE = 9,   /* a place or a file that is not there, or a run from a to b with a above b, or b above the number of jobs */
-    YIKES_DESK_CLOSED = 10    /* the desk's count is its allowance or more */
+    YIKES_DESK_CLOSED = 10,   /* the desk's count is its allowance or more */
+    YIKES_TEXT = 11           /* bytes that are the text of no job of the book: another, a missing or a further line, or a number out of its range */
 };
 
 /* What every line of yikes_list_line fits into, with its line feed. */
@@ -126,6 +128,25 @@ uint8_t yikes_check_file(const uint8_t *file, size_t file_length);
  * end, where the cursor is the length of the bytes, the words are 1, 0, the cursor, 0. Gives 2, and 7 where the bytes end inside the record or
  * before the cursor, the kind is unknown, or the length is one that its kind has in no book. */
 uint8_t yikes_read(const uint8_t *bytes, size_t bytes_length, size_t cursor, uint64_t *step, size_t step_length);
+
+/* ---- job text, as bytes: one lens job of a book with d 4, as the five lines that surfacing machines read, each ended by CR LF: JOB= with the job
+ * number, SPH= and CYL= in dioptres, AX= in degrees and CTHICK= in millimetres, in this order. The last four have the job's words in their signed
+ * reading, all but AX= as hundredths with exactly two decimals. A minus sign stands only before a negative value; there are no leading zeros, but at
+ * least one digit before any point. So each job has one text, of at most 135 bytes. A book with another d gives 1. */
+
+/* How long the text of a job is: words has exactly four words, and size exactly one, the bytes. Gives 1, 2, 3. */
+uint8_t yikes_text_size(uint64_t k, size_t d, size_t n, size_t t, uint64_t number, const uint64_t *words, size_t words_length, uint64_t *size,
+                        size_t size_length);
+
+/* Writes the text of a job: words has exactly four words, and out exactly the bytes that yikes_text_size tells, without a zero at the end. Gives 1,
+ * 2 for words, 3, 2 for out. */
+uint8_t yikes_write_text(uint64_t k, size_t d, size_t n, size_t t, uint64_t number, const uint64_t *words, size_t words_length, uint8_t *out,
+                         size_t out_length);
+
+/* Reads the text of a job: number has exactly one word, and words exactly four, those of the job whose text it is. Declines bytes that
+ * yikes_write_text writes of no job of the book, among them a text with anything before or after it. Gives 1, 2 for number and words, 11. */
+uint8_t yikes_read_text(uint64_t k, size_t d, size_t n, size_t t, const uint8_t *text, size_t text_length, uint64_t *number, size_t number_length,
+                        uint64_t *words, size_t words_length);
 
 /* ---- calls on a bundle: its first fault, 7, 1, 4 or 8, comes before anything else */
 

@@ -45,40 +45,40 @@ shimmed() { # READS WRITES NAME TEST..
 }
 
 # error numbers: 4 interrupted, 5 I/O, 11 not ready, 28 no space
-injected() { # LONG: the faults of reading and writing, on the sample and on an input with a long text
+injected() { # SHORT LONG: the faults of reading and writing, on a short input and on one with a long text
   local reads writes count input first
   for reads in "" "e4" "e11" "e4 1 *" "e11 e4 e11 100 *" "7 1 *"; do
     for writes in "" "e4" "e11" "e4 1 *" "e11 e4 3 *"; do
-      shimmed "$reads" "$writes" sample whole sample
       shimmed "$reads" "$writes" "$1" whole "$1"
+      shimmed "$reads" "$writes" "$2" whole "$2"
     done
   done
 
-  # 173 bytes are the order and two of the three files, which alone list another job
-  for count in 1 6 7 30 90 173 255 256; do
-    shimmed "$count e5" "" sample none
-    shimmed "e4 $count e11 e5" "" sample none
+  # of the sample, 173 bytes are the order and two of the three files, which alone list another job; the last count is all of the input
+  for count in 1 6 7 30 90 173 255 "$(wc -c <"$cases/$1.in")"; do
+    shimmed "$count e5" "" "$1" none
+    shimmed "e4 $count e11 e5" "" "$1" none
   done
-  shimmed "e5" "" sample none
+  shimmed "e5" "" "$1" none
   shimmed "65536 e5" "" long-65537-zeros none
   shimmed "65537 e5" "" long-65537-zeros whole long-65537-zeros
 
-  shimmed "" "e5" sample begins sample 0
-  shimmed "" "e28" sample begins sample 0
-  shimmed "" "0" sample begins sample 0
-  for input in sample "$1"; do
+  shimmed "" "e5" "$1" begins "$1" 0
+  shimmed "" "e28" "$1" begins "$1" 0
+  shimmed "" "0" "$1" begins "$1" 0
+  for input in "$1" "$2"; do
     first=$(head -n 1 "$cases/$input.out" | wc -c)
     for count in 1 $((first - 1)) "$first"; do
       shimmed "" "$count e5" "$input" begins "$input" "$count"
       shimmed "" "e4 $count e11 e28" "$input" begins "$input" "$count"
     done
-    shimmed "" "99 10 e5" "$input" begins "$input" $((first + 10))
+    shimmed "" "$first 10 e5" "$input" begins "$input" $((first + 10))
   done
 }
 
 # the system's own failures
-closed() {
-  local input=$cases/sample.in
+closed() { # SHORT
+  local input=$cases/$1.in
   run <"$input" >/dev/full 2>"$work/err"
   judge "a full device" says "standard output"
   run <"$input" >&- 2>"$work/err"
@@ -90,7 +90,7 @@ closed() {
   judge "a directory" none
   : >"$work/err"
   run <"$input" >"$work/out" 2>&-
-  judge "closed standard error" whole sample
+  judge "closed standard error" whole "$1"
   run <&- >"$work/out" 2>&-
   judge "closed standard input and error" [ $? -eq 0 -a ! -s "$work/out" ]
   run <&- >&- 2>&-
@@ -103,18 +103,29 @@ piped() { # LONG
 }
 
 choose open "${OPEN:-target/bin/open}"
-injected long-1000-jobs
-closed
+injected sample long-1000-jobs
+closed sample
 piped long-1000-jobs
 
+# The sample's d is 2, so the labs' own is the short input here; cut between two files every job of it would give 5. The long one has the longest
+# text.
+choose jobtext "${JOBTEXT:-target/bin/jobtext}"
+long=$(basename "$(find "$cases" -name '*.out' -printf '%s %p\n' | sort -n | tail -n 1)" .out)
+injected labs "$long"
+for count in 306 2997; do
+  shimmed "$count e5" "" labs none
+done
+closed labs
+piped "$long"
+
 choose mend "${MEND:-target/bin/mend}"
-injected long-727-jobs
-closed
+injected sample long-727-jobs
+closed sample
 piped long-727-jobs
 
 choose mend "$program" "$work/new"
-injected long-727-jobs
-closed
+injected sample long-727-jobs
+closed sample
 
 saving() { # SAVES SYNCS NAME TEST..: writes to the new file, and the call that waits until it is stored
   SAVES=$1 SYNCS=$2 shimmed "" "" "${@:3}"

@@ -1,11 +1,12 @@
 #!/usr/bin/env bash
-# What no theorem bounds: `open` lists its largest inputs, `mend` mends its own, with a new file and without, and both refuse empty, cut and overlong
-# ones, within a stack of 256 KiB, and within a second each (the slowest takes 0.02).
+# What no theorem bounds: `open` lists its largest inputs, `mend` mends its own, with a new file and without, `jobtext` prints those of its own,
+# and all refuse empty, cut and overlong ones, within a stack of 256 KiB, and within a second each (the slowest takes 0.02).
 set -u
 cd "$(dirname "$0")/.." || exit 2
 open=${OPEN:-target/bin/open}
 mend=${MEND:-target/bin/mend}
-for program in "$open" "$mend"; do
+jobtext=${JOBTEXT:-target/bin/jobtext}
+for program in "$open" "$mend" "$jobtext"; do
   [ -x "$program" ] || { echo "limits: no program at $program"; exit 1; }
 done
 work=$(mktemp -d) || exit 2
@@ -33,5 +34,9 @@ for name in $largest long-727-jobs $refused; do
   if [ -e "tests/mend/$name.new" ]; then
     cmp "$work/new" "tests/mend/$name.new" && rm "$work/new" || exit 1
   fi
+done
+
+for input in tests/jobtext/long-*.in tests/jobtext/empty.in tests/jobtext/labs.in; do
+  within "${input%.in}" "$jobtext"
 done
 echo "limits: stack and time hold, for accepted and refused inputs; the sample lists as stored"

@@ -16,7 +16,7 @@ C_TYPES = {'u8': 'uint8_t', 'u64': 'uint64_t', 'usize': 'size_t'}
 
 # Parameters that callers know by another name: bytes are mostly a bundle, and `length` is a definition that contracts use.
 NAMES = {'bytes': 'bundle', 'size': 'length'}
-NAMES_OF_CALL = {('yikes_read', 'bytes'): 'bytes'}
+NAMES_OF_CALL = {('yikes_read', 'bytes'): 'bytes', ('yikes_text_size', 'size'): 'size'}
 
 
 def read(path):

@@ -1,9 +1,9 @@
 #!/usr/bin/env python3
 """Whether README.md and docs/REFERENCE.md say what is so: the bundle taken apart, byte by byte, what `open` lists of it and what `mend` prints; the
-tables of refusals, of allowances and of what 65,536 bytes hold; README's samples; the kit's identity.
+job text of the labs' sample; the tables of refusals, of allowances and of what 65,536 bytes hold; README's samples; the kit's identity.
 
-  tools/documents.py OPEN MEND         exit 1, with a line for each, if something is otherwise; OPEN and MEND are the programs
-  tools/documents.py --block NAME      the block of docs/REFERENCE.md under the mark NAME: dump, listing, report, program, printed"""
+  tools/documents.py OPEN MEND JOBTEXT exit 1, with a line for each, if something is otherwise; the arguments are the programs
+  tools/documents.py --block NAME      the block of docs/REFERENCE.md under the mark NAME: dump, listing, report, text, program, printed"""
 import pathlib
 import re
 import subprocess
@@ -16,6 +16,7 @@ import reference as r
 
 REFERENCE = (TOP / 'docs/REFERENCE.md').read_text(encoding='utf-8')
 README = (TOP / 'README.md').read_text(encoding='utf-8')
+LABS = (TOP / 'samples/labs.bundle').read_bytes()
 
 
 def block(name):
@@ -53,16 +54,25 @@ def dump():
         yield 'the bytes taken apart end at %d' % at
 
 
+def prints(program, data):
+    """What a program prints of an input."""
+    return subprocess.run([program], input=data, capture_output=True, check=True).stdout.decode()
+
+
 def printed(program, what):
     """What a program prints of the dump, and of README's sample."""
-    def prints(data):
-        return subprocess.run([program], input=data, capture_output=True, check=True).stdout.decode()
-
-    if prints(bytes(r.sample())) != block(what):
+    if prints(program, bytes(r.sample())) != block(what):
         yield 'the %s of the dump is otherwise' % what
-    sample = prints((TOP / 'samples/labs.bundle').read_bytes())
+    sample = prints(program, LABS)
     if ''.join('    %s\n' % line for line in sample.splitlines()) not in README:
         yield 'README.md has another %s of samples/labs.bundle' % what
+
+
+def text(program):
+    """What `jobtext` prints of the labs' sample, where each of the five lines of a job ends in CR LF, which the page cannot show."""
+    right = re.sub(r'(?m)^((?:JOB|SPH|CYL|AX|CTHICK)=.*)$', r'\1\r', block('text'))
+    if prints(program, LABS) != right:
+        yield 'the text of samples/labs.bundle is otherwise'
 
 
 def capacity():
@@ -109,7 +119,7 @@ def main():
     if sys.argv[1] == '--block':
         sys.stdout.write(block(sys.argv[2]))
         return 0
-    found = [*dump(), *printed(sys.argv[1], 'listing'), *printed(sys.argv[2], 'report'), *capacity(), *allowances(), *refusals()]
+    found = [*dump(), *printed(sys.argv[1], 'listing'), *printed(sys.argv[2], 'report'), *text(sys.argv[3]), *capacity(), *allowances(), *refusals()]
     kit()
     for fault in found:
         print(fault)

@@ -1,8 +1,9 @@
 #!/usr/bin/env python3
-"""A second implementation of papers 01 and 02 (K1 to K5), for comparison: ring, dealing, opening, file writer, bundle reader, listing, mending, desk.
+"""A second implementation of papers 01 and 02 (K1 to K6), for comparison: ring, dealing, opening, file writer, bundle reader, listing, mending, desk,
+job text.
 
-Without arguments this is the program `open`: a bundle on standard input, its listing on standard output. With `--mend` it prints what `mend` does.
-`--selftest` checks the paper's examples, and three ways of opening against each other.
+Without arguments this is the program `open`: a bundle on standard input, its listing on standard output. With `--mend` it prints what `mend` does,
+with `--text` what `jobtext` does. `--selftest` checks the paper's examples, and three ways of opening against each other.
 
 Opening goes other ways than the library's Newton interpolation and key equation:
   open_by_definition  tries every polynomial (tiny books);
@@ -11,6 +12,7 @@ Opening goes other ways than the library's Newton interpolation and key equation
 """
 import itertools
 import random
+import re
 import struct
 import sys
 from collections import namedtuple
@@ -621,6 +623,53 @@ def mended(data):
         for i in bundle.files)
 
 
+# ---------------------------------------------------------------- job text (paper 02, K6): "one lens job as five lines"
+
+# "Job and axis are whole numbers; the other three have exactly two decimals." "No leading zeros, but at least one digit, before any point", and a
+# minus sign only before a negative value, so not before a zero. No number in range has more than 20 digits.
+DIGITS = "(?:0|[1-9][0-9]{0,19})"
+NUMBER, WHOLE, HUNDREDTHS = DIGITS, f"(?!-0)-?{DIGITS}", rf"(?!-0\.00)-?{DIGITS}\.[0-9][0-9]"
+FORMS = {"JOB": NUMBER, "SPH": HUNDREDTHS, "CYL": HUNDREDTHS, "AX": WHOLE, "CTHICK": HUNDREDTHS}
+TEXT = re.compile("".join(f"{label}=({form})\r\n" for label, form in FORMS.items()).encode())
+
+
+def check_text_book(book):
+    """ "Only books with d 4 have this text, others give 1." """
+    check_book(book)
+    require(book.d == 4, 1)
+
+
+def decimals(hundredths):
+    """Hundredths, "exactly two decimals"."""
+    whole, rest = divmod(abs(hundredths), 100)
+    return f"{'-' if hundredths < 0 else ''}{whole}.{rest:02}"
+
+
+def write_text(book, number, words):
+    """The five lines of a job, "each ended by CR LF". Order 1, 2, 3; an output is judged after these, "since its length depends on the words"."""
+    check_text_book(book)
+    require(len(words) == 4, 2)
+    ring = ring_of(book.k, book.d)
+    require(ring.in_width(words), 3)
+    sphere, cylinder, axis, thickness = map(ring.signed, words)
+    lines = f"JOB={number}", f"SPH={decimals(sphere)}", f"CYL={decimals(cylinder)}", f"AX={axis}", f"CTHICK={decimals(thickness)}"
+    return "".join(line + "\r\n" for line in lines).encode()
+
+
+def read_text(book, data):
+    """The number and the words of the one job that has this text. Order 1, 11.
+
+    11 is for "any other, missing or further line or a number outside the book's signed range, the job number's range being 0 to 2^64 - 1".
+    """
+    check_text_book(book)
+    found = TEXT.fullmatch(data)
+    require(found is not None, 11)
+    number, *values = (int(part.replace(b".", b"")) for part in found.groups())
+    half = 1 << book.k - 1
+    require(number < 2**64 and all(-half <= value < half for value in values), 11)
+    return number, tuple(value % (1 << book.k) for value in values)
+
+
 # ---------------------------------------------------------------- the programs
 
 def joined(items):
@@ -655,14 +704,16 @@ def change_lines(bundle, place):
     return [f"{number} holder {holder}" for holder in wrong]
 
 
-def text(data, head, lines_of):
-    """What a program prints: `head` and then the lines of each place, or `refused N` alone.
+def accepted(data):
+    """The bundle that a program reads. "Input that is too long gives 2 before any record is looked at." """
+    require(len(data) <= LONGEST_INPUT, 2)
+    return Bundle(data)
 
-    "Input that is too long gives 2 before any record is looked at."
-    """
+
+def text(data, head, lines_of):
+    """What a program prints: `head` and then the lines of each place, or `refused N` alone."""
     try:
-        require(len(data) <= LONGEST_INPUT, 2)
-        bundle = Bundle(data)
+        bundle = accepted(data)
     except Refused as refused:
         return f"refused {refused.number}\n"
     lines = [line for place in range(len(bundle.numbers)) for line in lines_of(bundle, place)]
@@ -677,6 +728,25 @@ def listing(data):
 def report(data):
     """What `mend` prints. No first line is asked for, so a bundle in which nothing changes prints nothing."""
     return text(data, [], change_lines)
+
+
+def text_of_place(bundle, place):
+    """The text of a job that opens; one that answers 5 or 6 has none, and is printed as `mend` prints it."""
+    try:
+        words, _ = open_shares(bundle.book, bundle.shares(place), bundle.e)
+    except Refused as refused:
+        return f"{bundle.numbers[place]} refused {refused.number}\n"
+    return write_text(bundle.book, bundle.numbers[place], words).decode()
+
+
+def job_texts(data):
+    """What `jobtext` prints: the texts one after another. A book that has none is declined as a bundle is."""
+    try:
+        bundle = accepted(data)
+        check_text_book(bundle.book)
+    except Refused as refused:
+        return f"refused {refused.number}\n"
+    return "".join(text_of_place(bundle, place) for place in range(len(bundle.numbers)))
 
 
 # ---------------------------------------------------------------- self-test
@@ -858,6 +928,79 @@ def test_mended():
     assert report(order(255) + heading(SAMPLE_BOOK, 1, 7, 0)) == ""
 
 
+LENS_BOOK, LENS = Book(16, 4, 3, 0), (-325 % 2**16, 50, 90, 218)
+LENS_LINES = b"JOB=10", b"SPH=-3.25", b"CYL=0.50", b"AX=90", b"CTHICK=2.18"
+
+
+def lines_text(lines):
+    return b"".join(line + b"\r\n" for line in lines)
+
+
+def test_text():
+    """K6: the numbers as they are written, the order of what is declined, and the program on bundles of books with and without this text."""
+    lens = lines_text(LENS_LINES)
+    assert write_text(LENS_BOOK, 10, LENS) == lens and read_text(LENS_BOOK, lens) == (10, LENS)
+    assert [decimals(x) for x in (5, -5, -100, 0, 99, 100, -99, 12345)] == ["0.05", "-0.05", "-1.00", "0.00", "0.99", "1.00", "-0.99", "123.45"]
+    one = Book(1, 4, 1, 0)
+    assert write_text(one, 0, (1, 0, 1, 1)) == lines_text([b"JOB=0", b"SPH=-0.01", b"CYL=0.00", b"AX=-1", b"CTHICK=-0.01"])
+    longest = write_text(Book(64, 4, 1, 0), 2**64 - 1, (2**63,) * 4)
+    assert longest.endswith(b"AX=-9223372036854775808\r\nCTHICK=-92233720368547758.08\r\n") and len(longest) == 135
+    faulty = Book(0, 4, 3, 0), Book(65, 4, 3, 0), Book(16, 4, 16, 0), Book(16, 4, 0, 0), Book(16, 4, 3, 3)
+    for book in (*faulty, *(Book(16, d, 3, 0) for d in (1, 2, 3, 5, 6, 7))):
+        assert [number_of(write_text, book, 10, words) for words in (LENS, LENS[:3], (2**64 - 1,) * 4)] == [1, 1, 1]
+        assert number_of(read_text, book, lens) == number_of(read_text, book, b"") == 1
+    wide = (2**16, *LENS[1:])
+    assert [number_of(write_text, LENS_BOOK, 10, words) for words in ((), wide[:3], (*wide, 0), wide, (0, 0, 0, 2**64 - 1))] == [2, 2, 2, 3, 3]
+    job_10, job_11 = [LENS, LENS, (0, 0, 0, 0)], [LENS, (0, 0, 0, 0), (1, 0, 0, 0)]
+    files = [heading(LENS_BOOK, i, 7, 2) + job(10, a) + job(11, b) for i, (a, b) in enumerate(zip(job_10, job_11), 1)]
+    data = order(1) + b"".join(files)
+    assert job_texts(data) == lens.decode() + "11 refused 6\n" and job_texts(data[:-len(files[2])]) == "10 refused 5\n11 refused 5\n"
+    assert job_texts(order(0) + heading(LENS_BOOK, 1, 7, 0)) == "" and job_texts(order(0) + heading(SAMPLE_BOOK, 1, 7, 0)) == "refused 1\n"
+    assert [job_texts(x) for x in (sample(), sample()[:255], b"", bytes(LONGEST_INPUT + 1))] == [f"refused {number}\n" for number in (1, 7, 7, 2)]
+
+
+def near_misses():
+    """Lines that stand instead of one of the example's, by place; each is declined."""
+    numbers = b"", b"-0", b"+10", b"010", b"10.00", b" 10", b"10 ", b"-1", b"%d" % 2**64, b"1" + 5000 * b"0"
+    yield from ((0, b"JOB=" + x) for x in numbers)
+    numbers = (b"", b"-0.00", b"+1.00", b"01.00", b"-01.00", b".50", b"-.50", b"1.5", b"1.500", b"1", b"1.", b"1,50", b"1.50 ", b"- 1.50", b"1e2",
+               b"0x1.00", "\uff11.00".encode(), b"1.0\xb2", b"327.68", b"-327.69", b"655.36", b"184467440737095519.66")
+    yield from ((place, label + x) for place, label in ((1, b"SPH="), (2, b"CYL="), (4, b"CTHICK=")) for x in numbers)
+    numbers = b"", b"-0", b"+90", b"090", b"-090", b"90.0", b"90.00", b"90 ", b"32768", b"-32769", b"65626", b"%d" % (2**64 + 90)
+    yield from ((3, b"AX=" + x) for x in numbers)
+    for place, line in enumerate(LENS_LINES):
+        label, value = line.split(b"=")
+        others = b"", line.lower(), b" " + line, label + b" =" + value, label + b"= " + value, label + b":" + value, label + value, value
+        further = line + b"\r", line + b"\n", line + b"\0", line + b"\r\n", line + b"\r\n" + line, LENS_LINES[place - 1]
+        yield from ((place, x) for x in others + further)
+
+
+def test_text_declined(rng):
+    """ "Text that export would not write is declined, so one job has one text": near misses, every change of one byte, all jobs of small books."""
+    lens = lines_text(LENS_LINES)
+    for place, line in near_misses():
+        lines = *LENS_LINES[:place], line, *LENS_LINES[place + 1:]
+        assert number_of(read_text, LENS_BOOK, lines_text(lines)) == 11, line
+    others = [lens[:at] for at in range(len(lens))] + [lens + x for x in (b"\0", b"\r", b"\n", b" ", b"\r\n", b"JOB=10\r\n", lens)]
+    others += [lens.replace(b"\r\n", end) for end in (b"\n", b"\r", b"\n\r", b"")]
+    others += [lines_text(LENS_LINES[:at] + LENS_LINES[at + 1:]) for at in range(5)]
+    others += [lines_text(lines) for lines in itertools.permutations(LENS_LINES) if lines != LENS_LINES]
+    assert {number_of(read_text, LENS_BOOK, x) for x in others} == {11}
+    for at, byte in itertools.product(range(len(lens)), range(256)):
+        other = lens[:at] + bytes([byte]) + lens[at + 1:]
+        if other != lens and number_of(read_text, LENS_BOOK, other) == 0:  # another number, so another text
+            assert lens[at] in b"-0123456789" and byte in b"0123456789" and write_text(LENS_BOOK, *read_text(LENS_BOOK, other)) == other
+    for k in (1, 2):
+        book, every = Book(k, 4, 15, 14), list(itertools.product(range(2**k), repeat=4))
+        texts = [write_text(book, 7, words) for words in every]
+        assert len(set(texts)) == 2**(4 * k) and [read_text(book, x) for x in texts] == [(7, words) for words in every]
+    for _ in range(2000):
+        book, number = Book(rng.randint(1, 64), 4, 15, 14), rng.choice((0, 2**64 - 1, rng.getrandbits(rng.randint(1, 64))))
+        half = 1 << book.k - 1
+        words = tuple(rng.choice((0, half - 1, half, 2 * half - 1, rng.getrandbits(book.k))) for _ in range(4))
+        assert read_text(book, write_text(book, number, words)) == (number, words)
+
+
 def random_element(rng, ring):
     return tuple(rng.getrandbits(ring.k) for _ in range(ring.d))
 
@@ -996,12 +1139,14 @@ def selftest():
     test_added()
     test_desk()
     test_mended()
+    test_text()
     test_ring(rng)
     test_runs(rng)
     seen = test_openings(rng, 6000)
     test_large(rng)
     test_mending(rng)
     test_month(rng)
+    test_text_declined(rng)
     print("self-test passed; openings compared:", ", ".join(f"{count} {name}" for name, count in seen.items()))
 
 
@@ -1010,7 +1155,9 @@ if __name__ == "__main__":
         selftest()
     elif sys.argv[1:] == ["--mend"]:
         sys.stdout.write(report(sys.stdin.buffer.read()))
+    elif sys.argv[1:] == ["--text"]:
+        sys.stdout.write(job_texts(sys.stdin.buffer.read()))
     elif sys.argv[1:]:
-        sys.exit("usage: reference.py [--selftest | --mend] < bundle")
+        sys.exit("usage: reference.py [--selftest | --mend | --text] < bundle")
     else:
         sys.stdout.write(listing(sys.stdin.buffer.read()))

@@ -1,8 +1,8 @@
 #!/usr/bin/env bash
-# stack.sh open|mend [TIMES]: the stack that a program needs, as README.md states it: the smallest limit of `ulimit -s`, in steps of 4 KiB, within
-# which it prints every stored case as it should, so many times each (20, or the second argument); `mend` makes a new file too, which takes more than
-# none. Where the system puts the stack's first byte varies from run to run, so one run is not enough; the environment lies on the stack too, and is
-# empty here. The programs are target/bin/open and target/bin/mend, or the paths in OPEN and MEND.
+# stack.sh open|mend|jobtext [TIMES]: the stack that a program needs, as README.md states it: the smallest limit of `ulimit -s`, in steps of 4 KiB,
+# within which it prints every stored case as it should, so many times each (20, or the second argument); `mend` makes a new file too, which takes
+# more than none. Where the system puts the stack's first byte varies from run to run, so one run is not enough; the environment lies on the stack
+# too, and is empty here. The programs are those of target/bin, or the paths in OPEN, MEND and JOBTEXT.
 set -u
 cd "$(dirname "$0")/.." || exit 2
 name=${1:-}
@@ -12,7 +12,8 @@ trap 'rm -rf "$work"' EXIT
 case $name in
 open) command=("${OPEN:-target/bin/open}") ;;
 mend) command=("${MEND:-target/bin/mend}" "$work/new") ;;
-*) echo "usage: stack.sh open|mend [TIMES]"; exit 2 ;;
+jobtext) command=("${JOBTEXT:-target/bin/jobtext}") ;;
+*) echo "usage: stack.sh open|mend|jobtext [TIMES]"; exit 2 ;;
 esac
 [ -x "${command[0]}" ] || { echo "stack: no program at ${command[0]}"; exit 1; }
 

@@ -3,6 +3,7 @@
  * are wrong, zero with a null pointer, or too large to multiply, and that a call that declines leaves its outputs as they were.
  * Prints 'N checks', or a line for each that failed, and then exits with 1.
  */
+#include <inttypes.h>
 #include <stdint.h>
 #include <stdio.h>
 #include <string.h>
@@ -1053,6 +1054,435 @@ static void desks_largest(uint64_t k) {
     AT_DESK(YIKES_DESK_CLOSED, written, 0, 6);
 }
 
+/* Job text: what is lent and given, in the labs' own book. */
+#define LABS 16, 4, 15, 4
+#define JOB o.words, 4
+enum { TEXT_MOST = 135, TEXT_ROOM = 32768 };
+
+/* Paper 02's five lines, and a job of the labs' own book. */
+static const char *const labels[5] = {"JOB=", "SPH=", "CYL=", "AX=", "CTHICK="};
+static const char *const values[5] = {"10", "-3.25", "0.50", "90", "2.18"};
+static const char *const ends[5] = {"\r\n", "\r\n", "\r\n", "\r\n", "\r\n"};
+static const uint64_t lens_job[8] = {65536 - 325, 50, 90, 218, 1, 2, 3, 4};
+static const char example[] = "JOB=10\r\nSPH=-3.25\r\nCYL=0.50\r\nAX=90\r\nCTHICK=2.18\r\n";
+enum { EXAMPLE = sizeof example - 1 };
+static uint8_t text[TEXT_ROOM];
+
+/* Puts together five lines of any labels, values and ends. */
+static size_t lines(const char *const *label, const char *const *value, const char *const *end) {
+    size_t i, n = 0;
+    for (i = 0; i < 5; i++) n += (size_t)sprintf((char *)text + n, "%s%s%s", label[i], value[i], end[i]);
+    return n;
+}
+
+/* The text of a job, as the C library prints its numbers. */
+static size_t text_of(char *out, uint64_t k, uint64_t number, const uint64_t *w) {
+    const char *sign[4];
+    uint64_t v[4];
+    size_t i;
+    for (i = 0; i < 4; i++) {
+        const int minus = w[i] >> (k - 1) & 1;
+        sign[i] = minus ? "-" : "";
+        v[i] = minus ? (UINT64_MAX >> (64 - k)) - w[i] + 1 : w[i];
+    }
+    return (size_t)sprintf(out,
+                           "JOB=%" PRIu64 "\r\nSPH=%s%" PRIu64 ".%02" PRIu64 "\r\nCYL=%s%" PRIu64 ".%02" PRIu64 "\r\nAX=%s%" PRIu64
+                           "\r\nCTHICK=%s%" PRIu64 ".%02" PRIu64 "\r\n",
+                           number, sign[0], v[0] / 100, v[0] % 100, sign[1], v[1] / 100, v[1] % 100, sign[2], v[2], sign[3], v[3] / 100, v[3] % 100);
+}
+
+/* Whether bytes are the text of a job, and of which: signs and digits are taken as they come, modulo 2^64, and the text of what they make is
+ * compared. */
+static int is_text(const uint8_t *bytes, size_t n, uint64_t k, uint64_t *number, uint64_t *w) {
+    char right[2 * TEXT_MOST];
+    uint64_t v[5] = {0};
+    int minus[5] = {0};
+    size_t i, line = 0;
+    for (i = 0; i < n && line < 5; i++) {
+        if (bytes[i] == '\n') line++;
+        else if (bytes[i] == '-') minus[line] = 1;
+        else if (bytes[i] >= '0' && bytes[i] <= '9') v[line] = 10 * v[line] + (uint64_t)bytes[i] - '0';
+    }
+    *number = v[0];
+    for (i = 0; i < 4; i++) w[i] = (minus[i + 1] ? 0 - v[i + 1] : v[i + 1]) & UINT64_MAX >> (64 - k);
+    return text_of(right, k, *number, w) == n && memcmp(right, bytes, n) == 0;
+}
+
+/* Reads bytes beside that: the job whose text they are, or 11. */
+static void reads(int line, uint64_t k, const uint8_t *bytes, size_t n) {
+    uint64_t number, w[4];
+    const int right = is_text(bytes, n, k, &number, w);
+    uint8_t answer;
+    poison();
+    answer = yikes_read_text(k, 4, 15, 4, bytes, n, SECOND, JOB);
+    check(right ? answer == YIKES_OK && now_holds(w, 4, &number, 1) : answer == YIKES_TEXT && untouched(), line, "bytes beside the text of a job");
+}
+
+/* The same of the n bytes of `text`, which are known to be no text. */
+static void no_text(int line, uint64_t k, size_t n) {
+    uint64_t number, w[4];
+    check(!is_text(text, n, k, &number, w), line, "a text of no job");
+    reads(line, k, text, n);
+}
+
+/* One job: the length of its text, the text, and the job read from it; and outputs of other lengths. */
+static void one_job(int line, uint64_t k, uint64_t number, const uint64_t *w, const void *right, size_t n) {
+    const uint64_t size = n;
+    poison();
+    check(yikes_text_size(k, 4, 15, 4, number, w, 4, SECOND) == YIKES_OK && now_holds(NULL, 0, &size, 1), line, "the length of a text");
+    poison();
+    check(yikes_write_text(k, 4, 15, 4, number, w, 4, o.bytes, n) == YIKES_OK && now_bytes(right, n), line, "the text of a job");
+    poison();
+    check(yikes_read_text(k, 4, 15, 4, (const uint8_t *)right, n, SECOND, JOB) == YIKES_OK && now_holds(w, 4, &number, 1), line, "the job of a text");
+    poison();
+    check(yikes_write_text(k, 4, 15, 4, number, w, 4, o.bytes, n - 1) == YIKES_LENGTH && untouched(), line, "a byte less");
+    poison();
+    check(yikes_write_text(k, 4, 15, 4, number, w, 4, o.bytes, n + 1) == YIKES_LENGTH && untouched(), line, "a byte more");
+}
+
+/* Jobs whose text is known, and those at the ends of each range: the least and the greatest value of a word, in each line by itself. What is below
+ * or above them is no text. */
+static void texts(void) {
+    static const struct {
+        uint64_t k, number, words[4];
+        const char *text;
+    } known[] = {
+        {16, 10, {65536 - 325, 50, 90, 218}, "JOB=10\r\nSPH=-3.25\r\nCYL=0.50\r\nAX=90\r\nCTHICK=2.18\r\n"},
+        {16, 501, {65536 - 225, 65536 - 75, 180, 210}, "JOB=501\r\nSPH=-2.25\r\nCYL=-0.75\r\nAX=180\r\nCTHICK=2.10\r\n"},
+        {16, 0, {0, 0, 0, 0}, "JOB=0\r\nSPH=0.00\r\nCYL=0.00\r\nAX=0\r\nCTHICK=0.00\r\n"},
+        {8, 9, {5, 251, 255, 156}, "JOB=9\r\nSPH=0.05\r\nCYL=-0.05\r\nAX=-1\r\nCTHICK=-1.00\r\n"},
+        {8, 99, {100, 101, 100, 99}, "JOB=99\r\nSPH=1.00\r\nCYL=1.01\r\nAX=100\r\nCTHICK=0.99\r\n"},
+        {16, 100, {10, 65536 - 10, 10, 1000}, "JOB=100\r\nSPH=0.10\r\nCYL=-0.10\r\nAX=10\r\nCTHICK=10.00\r\n"},
+        {1, 1, {1, 0, 1, 0}, "JOB=1\r\nSPH=-0.01\r\nCYL=0.00\r\nAX=-1\r\nCTHICK=0.00\r\n"},
+        {1, 1, {0, 1, 0, 1}, "JOB=1\r\nSPH=0.00\r\nCYL=-0.01\r\nAX=0\r\nCTHICK=-0.01\r\n"},
+        {64, UINT64_MAX, {UINT64_MAX, UINT64_MAX, UINT64_MAX, UINT64_MAX},
+         "JOB=18446744073709551615\r\nSPH=-0.01\r\nCYL=-0.01\r\nAX=-1\r\nCTHICK=-0.01\r\n"},
+        {64, UINT64_C(1) << 63, {INT64_MAX, 1, INT64_MAX, 9},
+         "JOB=9223372036854775808\r\nSPH=92233720368547758.07\r\nCYL=0.01\r\nAX=9223372036854775807\r\nCTHICK=0.09\r\n"},
+        {64, UINT64_MAX, {UINT64_C(1) << 63, UINT64_C(1) << 63, UINT64_C(1) << 63, UINT64_C(1) << 63},
+         "JOB=18446744073709551615\r\nSPH=-92233720368547758.08\r\nCYL=-92233720368547758.08\r\nAX=-9223372036854775808\r\n"
+         "CTHICK=-92233720368547758.08\r\n"}};
+    size_t i;
+    for (i = 0; i < COUNT(known); i++) one_job(__LINE__, known[i].k, known[i].number, known[i].words, known[i].text, strlen(known[i].text));
+    check(strlen(known[i - 1].text) == TEXT_MOST, __LINE__, "the longest text");
+}
+
+static void text_ranges(void) {
+    static const struct {
+        uint64_t k;
+        const char *least, *most, *below, *above, *least_whole, *most_whole, *below_whole, *above_whole;
+    } ranges[] = {
+        {1, "-0.01", "0.00", "-0.02", "0.01", "-1", "0", "-2", "1"},
+        {2, "-0.02", "0.01", "-0.03", "0.02", "-2", "1", "-3", "2"},
+        {8, "-1.28", "1.27", "-1.29", "1.28", "-128", "127", "-129", "128"},
+        {16, "-327.68", "327.67", "-327.69", "327.68", "-32768", "32767", "-32769", "32768"},
+        {63, "-46116860184273879.04", "46116860184273879.03", "-46116860184273879.05", "46116860184273879.04", "-4611686018427387904",
+         "4611686018427387903", "-4611686018427387905", "4611686018427387904"},
+        {64, "-92233720368547758.08", "92233720368547758.07", "-92233720368547758.09", "92233720368547758.08", "-9223372036854775808",
+         "9223372036854775807", "-9223372036854775809", "9223372036854775808"}};
+    size_t i, at;
+    for (i = 0; i < COUNT(ranges); i++) {
+        const uint64_t k = ranges[i].k, high = UINT64_C(1) << (k - 1);
+        for (at = 1; at < 5; at++) {
+            const char *value[5] = {"7", "0.00", "0.00", "0", "0.00"};
+            uint64_t w[4] = {0, 0, 0, 0};
+            w[at - 1] = high;
+            value[at] = at == 3 ? ranges[i].least_whole : ranges[i].least;
+            one_job(__LINE__, k, 7, w, text, lines(labels, value, ends));
+            w[at - 1] = high - 1;
+            value[at] = at == 3 ? ranges[i].most_whole : ranges[i].most;
+            one_job(__LINE__, k, 7, w, text, lines(labels, value, ends));
+            value[at] = at == 3 ? ranges[i].below_whole : ranges[i].below;
+            no_text(__LINE__, k, lines(labels, value, ends));
+            value[at] = at == 3 ? ranges[i].above_whole : ranges[i].above;
+            no_text(__LINE__, k, lines(labels, value, ends));
+        }
+    }
+}
+
+/* Every word of 11 bits in every line; and numbers and values of both signs next to the powers of ten, where a digit more is needed. */
+static void text_values(void) {
+    char right[2 * TEXT_MOST];
+    uint64_t w[4], power = 1;
+    size_t i, j, n;
+    for (i = 0; i < 2048; i++) {
+        for (j = 0; j < 4; j++) w[j] = (i + 512 * j) % 2048;
+        n = text_of(right, 11, i, w);
+        one_job(__LINE__, 11, i, w, right, n);
+    }
+    for (i = 0; i < 20; i++, power *= 10) {
+        for (j = 0; j < 6; j++) {
+            const uint64_t v = power + j % 3 - 1, small = v > INT64_MAX ? 0 : v;
+            w[0] = w[1] = w[2] = w[3] = j < 3 ? small : 0 - small;
+            n = text_of(right, 64, v, w);
+            one_job(__LINE__, 64, v, w, right, n);
+        }
+    }
+}
+
+/* Jobs of every width, as the C library prints them: drawn words, small ones of both signs, and the ends. A text of 64 bits is read in every width,
+ * where it may be no text. */
+static void drawn_texts(void) {
+    char right[2 * TEXT_MOST];
+    uint64_t k, w[4];
+    size_t i, j, n;
+    for (k = 1; k <= 64; k++) {
+        const uint64_t mask = UINT64_MAX >> (64 - k), high = UINT64_C(1) << (k - 1);
+        for (i = 0; i < 24; i++) {
+            const uint64_t number = draw() >> (draw() >> 58);
+            for (j = 0; j < 4; j++) {
+                const uint64_t drawn = draw() >> (64 - k), small = drawn >> (draw() >> 32) % k;
+                const uint64_t choices[6] = {drawn, small, (0 - small) & mask, high, high - 1, mask};
+                w[j] = choices[(draw() >> 32) % 6];
+            }
+            n = text_of(right, k, number, w);
+            one_job(__LINE__, k, number, w, right, n);
+        }
+        for (i = 0; i < 24; i++) {
+            for (j = 0; j < 4; j++) {
+                const uint64_t near = high + (draw() >> 62) - 2;
+                w[j] = (draw() >> 63 ? near : 0 - near) & (i % 4 == j || i >= 20 ? UINT64_MAX : high - 1);
+            }
+            n = text_of(right, 64, draw(), w);
+            reads(__LINE__, k, (const uint8_t *)right, n);
+        }
+    }
+}
+
+/* One value, label or end of the example replaced by each of these, in the lines from `from` to `to`. */
+enum { LABEL, VALUE, END };
+static void replaced(int line, int what, size_t from, size_t to, const char *const *by, size_t n) {
+    size_t at, i;
+    for (at = from; at <= to; at++) {
+        for (i = 0; i < n; i++) {
+            const char *parts[3][5];
+            memcpy(parts[LABEL], labels, sizeof labels);
+            memcpy(parts[VALUE], values, sizeof values);
+            memcpy(parts[END], ends, sizeof ends);
+            parts[what][at] = by[i];
+            no_text(line, 16, lines(parts[LABEL], parts[VALUE], parts[END]));
+        }
+    }
+}
+
+/* Text that a hurried reader would take: numbers in another form, out of their range by one or by a power of two, other labels and other ends. */
+static void near_misses(void) {
+    static const char *const whole[] = {
+        "", "-", "-0", "+90", "+0", "090", "00", "-090", "-00", "--9", "90.", "90.0", "90.00", "0.90", ".", " 90", "90 ", "9 0", "- 9", "9-", "9-0",
+        "0x5a", "9e1", "9,0", "90\t", "a", "9a", "/9", ":9", "9/", "9:", "\r", "90\r", "90\n"};
+    static const char *const unsigned_numbers[] = {
+        "-1", "-10", "18446744073709551616", "18446744073709551617", "18446744073709551626", "18446744073709551625", "20000000000000000000",
+        "36893488147419103242", "99999999999999999999", "100000000000000000000", "184467440737095516150", "340282366920938463463374607431768211466",
+        "018446744073709551615"};
+    static const char *const axes[] = {
+        "32768", "-32769", "65535", "65536", "65626", "-65446", "4294967386", "18446744073709551615", "18446744073709551616", "18446744073709551706",
+        "-18446744073709551526", "100000", "-100000", "9999999999999999999999"};
+    static const char *const hundredths[] = {
+        "", "-", ".", "-.", "0", "-0", "1", "-3", "1.", "-1.", "1.5", "-0.5", "0.0", "-0.0", "-0.00", "+1.00", "+0.00", "01.00", "-01.00", "00.50",
+        "-00.50", "00.00", ".50", "-.50", "1.500", "1.000", "1.255", "-0.000", "1,25", "1.2.5", "1..25", "1.-25", "--1.25", "-+1.25", "1.25-",
+        "1.+5", "1.2-", "- 1.25", " 1.25", "1 .25", "1. 25", "1.2 ", "1. 2", "1.25 ", "1.25\t", "1:25", "1.2a", "1.a2", "a.25", "/.25", ":.25",
+        "1./5", "1.:5", "1.2/", "1.2:", "125", "1.25e1", "0x1.25", "1.25D", "1.25\r", "1.25\n", "1\r\n.25", "nan", "?",
+        /* beyond the range by one; the words as unsigned; and a right value more or less by 2^16, 2^32 and 2^64 */
+        "327.68", "-327.69", "652.11", "655.35", "655.36", "655.86", "-654.86", "-658.61", "42949672.96", "42949673.46", "184467440737095516.16",
+        "184467440737095516.66", "-184467440737095515.66", "184467440737095512.91", "1000.00", "-1000.00", "100000000000000000000000000000.00"};
+    static const char *const other_labels[] = {
+        "", "=", "JOB", "JOB:", "JOB==", "job=", "Job=", "JOb=", " JOB=", "JOB =", "JOB= ", "\tJOB=", "JOB=\"", "SPH", "SPH:", "sph=", "Sph=",
+        "SPH =", " SPH=", "SPH= ", "SPHERE=", "SP=", "LSPH=", "SPH=R;", "CYL", "cyl=", "CYl=", "CYL =", "CY=", "AX", "ax=", "Ax=", "AX =", "A=",
+        "AXIS=", "X=", "CTHICK", "cthick=", "CThick=", "CTHICK =", "CTHIC=", "THICK=", "THK=", "CTHICKNESS=", "CTHICK;", "\r\nJOB=", "\r\nSPH=",
+        "\r\nCYL=", "\r\nAX=", "\r\nCTHICK=", "\xef\xbb\xbf" "JOB="};
+    static const char *const other_ends[] = {
+        "", "\n", "\r", "\n\r", "\r\r\n", "\r\n\n", "\r\n\r", "\r\n\r\n", " \r\n", "\r\n ", "\r \n", "\t\r\n", ";\r\n", "0\n", "\n\n", "\r\r",
+        "\x0b\n", "\r\x0b", "\x85", "\\r\\n", "\r\nLNAM=\r\n", "\r\nJOB=10\r\n", "\r\nCTHICK=2.18\r\n"};
+
+    replaced(__LINE__, VALUE, 0, 0, whole, COUNT(whole));
+    replaced(__LINE__, VALUE, 0, 0, unsigned_numbers, COUNT(unsigned_numbers));
+    replaced(__LINE__, VALUE, 3, 3, whole, COUNT(whole));
+    replaced(__LINE__, VALUE, 3, 3, axes, COUNT(axes));
+    replaced(__LINE__, VALUE, 1, 2, hundredths, COUNT(hundredths));
+    replaced(__LINE__, VALUE, 4, 4, hundredths, COUNT(hundredths));
+    replaced(__LINE__, LABEL, 0, 4, other_labels, COUNT(other_labels));
+    replaced(__LINE__, LABEL, 1, 4, labels, 1);
+    replaced(__LINE__, LABEL, 0, 3, labels + 4, 1);
+    replaced(__LINE__, END, 0, 4, other_ends, COUNT(other_ends));
+}
+
+/* The five lines in every order, and once less, and once more. */
+static void text_lines(void) {
+    const char *label[5], *value[5];
+    size_t i, j, n;
+    for (i = 0; i < 3125; i++) {
+        for (j = 0, n = i; j < 5; j++, n /= 5) label[j] = labels[n % 5], value[j] = values[n % 5];
+        n = lines(label, value, ends);
+        reads(__LINE__, 16, text, n);
+    }
+    for (i = 0; i < 5; i++) {
+        n = 0;
+        for (j = 0; j < 5; j++) n += i == j ? 0 : (size_t)sprintf((char *)text + n, "%s%s\r\n", labels[j], values[j]);
+        no_text(__LINE__, 16, n);
+        n = 0;
+        for (j = 0; j < 10; j++) n += j % 2 == 1 && i != j / 2 ? 0 : (size_t)sprintf((char *)text + n, "%s%s\r\n", labels[j / 2], values[j / 2]);
+        no_text(__LINE__, 16, n);
+    }
+}
+
+/* Every beginning of a text, and every end; a byte changed, put between, or left out, at every place. */
+static void text_bytes(uint64_t k, const char *right) {
+    static const uint8_t other[] = "0123456789-+.,= \t\r\n/:;JOBobSAXC\0\x7f\x80\xff";
+    const size_t n = strlen(right);
+    size_t i, j;
+    for (i = 0; i < n; i++) {
+        /* the bytes after the last one that is lent would make it a text */
+        DECLINES(YIKES_TEXT, yikes_read_text(k, 4, 15, 4, (const uint8_t *)right, i, SECOND, JOB));
+        if (i != 0) DECLINES(YIKES_TEXT, yikes_read_text(k, 4, 15, 4, (const uint8_t *)right + i, n - i, SECOND, JOB));
+        memcpy(text, right, i);
+        memcpy(text + i, right + i + 1, n - i - 1);
+        reads(__LINE__, k, text, n - 1);
+    }
+    for (i = 0; i <= n; i++) {
+        for (j = 0; j < COUNT(other); j++) {
+            memcpy(text, right, i);
+            text[i] = other[j];
+            memcpy(text + i + 1, right + i, n - i);
+            reads(__LINE__, k, text, n + 1);
+            memcpy(text, right, n);
+            text[i] = other[j];
+            if (i < n) reads(__LINE__, k, text, n);
+        }
+    }
+    for (j = 0; j < 256; j++) {
+        memcpy(text, right, n);
+        text[n] = (uint8_t)j;
+        no_text(__LINE__, k, n + 1);
+    }
+}
+
+/* Text that is very long, in the number of its lines and in one number of it. */
+static void long_texts(void) {
+    static char digits[6001];
+    const char *value[5];
+    size_t i, n;
+    for (i = 0; i < 60; i++) memcpy(text + i * EXAMPLE, example, EXAMPLE);
+    for (n = EXAMPLE + 1; n <= 60 * EXAMPLE; n += 7) no_text(__LINE__, 16, n);
+    no_text(__LINE__, 16, 60 * EXAMPLE);
+    for (i = 0; i < 20; i++) {
+        memset(digits, '0' + (int)i % 4, sizeof digits - 1);
+        /* leading zeros or ones before the right digits, and digits after the point */
+        if (i < 10) memcpy(digits + sizeof digits - 5, i % 5 == 0 || i % 5 == 3 ? "0010" : "2.18", 4);
+        else digits[1] = '.';
+        memcpy(value, values, sizeof values);
+        value[i % 5] = digits;
+        no_text(__LINE__, 16, lines(labels, value, ends));
+    }
+}
+
+/* Books that have no text: one number is out of its range, or d is another. Some are right where only their low bits are looked at. */
+static const struct {
+    uint64_t k;
+    size_t d, n, t;
+} textless[] = {
+    {0, 4, 15, 4},   {65, 4, 15, 4},   {272, 4, 15, 4},  {UINT64_C(16) << 32 | 16, 4, 15, 4},  {UINT64_MAX, 4, 15, 4},
+    {16, 4, 0, 0},   {16, 4, 16, 4},   {16, 4, 31, 4},   {16, 4, 271, 4},                      {16, 4, SIZE_MAX, 4},
+    {16, 4, 15, 15}, {16, 4, 15, 16},  {16, 4, 1, 1},    {16, 4, 15, 260},                     {16, 4, 15, SIZE_MAX},
+    {16, 2, 3, 1},   {16, 3, 7, 4},    {16, 3, 3, 1},    {16, 5, 15, 4},                       {16, 5, 31, 4},
+    {16, 6, 15, 4},  {16, 6, 63, 20},  {16, 0, 15, 4},   {16, 1, 1, 0},                        {16, 7, 15, 4},
+    {16, 8, 15, 4},  {16, 260, 15, 4}, {16, SIZE_MAX, 15, 4}, {64, 2, 3, 0},                   {0, 0, 0, 0},
+};
+
+/* 1 before all else, in each call; and every book with d 4 has the same text. */
+static void text_books(void) {
+    const uint64_t wide[6] = {65536, UINT64_MAX, 0, 0, 0, 0};
+    const uint8_t *right = (const uint8_t *)example;
+    const uint64_t size = EXAMPLE, number = 10;
+    size_t i, n, t;
+    for (i = 0; i < COUNT(textless); i++) {
+        const uint64_t k = textless[i].k;
+        const size_t d = textless[i].d;
+        n = textless[i].n, t = textless[i].t;
+        DECLINES(YIKES_PARAMETERS, yikes_text_size(k, d, n, t, 10, lens_job, 4, SECOND));
+        DECLINES(YIKES_PARAMETERS, yikes_text_size(k, d, n, t, 10, lens_job, d < 7 ? d : 7, SECOND));
+        DECLINES(YIKES_PARAMETERS, yikes_text_size(k, d, n, t, 10, wide, 4, SECOND));
+        DECLINES(YIKES_PARAMETERS, yikes_text_size(k, d, n, t, 10, wide, 5, o.second, 2));
+        DECLINES(YIKES_PARAMETERS, yikes_text_size(k, d, n, t, UINT64_MAX, NULL, 0, NULL, 0));
+        DECLINES(YIKES_PARAMETERS, yikes_write_text(k, d, n, t, 10, lens_job, 4, o.bytes, EXAMPLE));
+        DECLINES(YIKES_PARAMETERS, yikes_write_text(k, d, n, t, 10, lens_job, d < 7 ? d : 7, o.bytes, EXAMPLE));
+        DECLINES(YIKES_PARAMETERS, yikes_write_text(k, d, n, t, 10, wide, 4, o.bytes, EXAMPLE));
+        DECLINES(YIKES_PARAMETERS, yikes_write_text(k, d, n, t, 10, wide, HUGE_LENGTH, o.bytes, HUGE_LENGTH));
+        DECLINES(YIKES_PARAMETERS, yikes_write_text(k, d, n, t, UINT64_MAX, NULL, 0, NULL, 0));
+        DECLINES(YIKES_PARAMETERS, yikes_read_text(k, d, n, t, right, EXAMPLE, SECOND, JOB));
+        DECLINES(YIKES_PARAMETERS, yikes_read_text(k, d, n, t, right, EXAMPLE, SECOND, o.words, d < 7 ? d : 7));
+        DECLINES(YIKES_PARAMETERS, yikes_read_text(k, d, n, t, right, EXAMPLE - 1, o.second, 2, o.words, 5));
+        DECLINES(YIKES_PARAMETERS, yikes_read_text(k, d, n, t, NULL, 0, NULL, 0, NULL, 0));
+    }
+    for (n = 1; n <= 15; n++) {
+        for (t = 0; t < n; t++) {
+            GIVES(yikes_text_size(16, 4, n, t, 10, lens_job, 4, SECOND), now_holds(NULL, 0, &size, 1));
+            GIVES(yikes_write_text(16, 4, n, t, 10, lens_job, 4, o.bytes, EXAMPLE), now_bytes(example, EXAMPLE));
+            GIVES(yikes_read_text(16, 4, n, t, right, EXAMPLE, SECOND, JOB), now_holds(lens_job, 4, &number, 1));
+        }
+    }
+}
+
+/* 2 for a list of words before 3, and 2 for the text after it; 2 before 11. */
+static void text_orders(void) {
+    const size_t lengths[] = {0, 1, 2, 3, 5, 6, 8, HUGE_LENGTH}, ones[] = {0, 2, 3, 4, HUGE_LENGTH};
+    const size_t outs[] = {0, 1, 45, EXAMPLE - 1, EXAMPLE + 1, TEXT_MOST, 8192, HUGE_LENGTH};
+    const uint64_t wide[8] = {0, 0, 0, 65536, 65536, 65536, 65536, 65536};
+    const uint8_t *right = (const uint8_t *)example;
+    size_t i, j;
+    for (i = 0; i < COUNT(lengths); i++) {
+        DECLINES(YIKES_LENGTH, yikes_text_size(LABS, 10, lens_job, lengths[i], SECOND));
+        DECLINES(YIKES_LENGTH, yikes_text_size(LABS, 10, wide, lengths[i], SECOND));
+        DECLINES(YIKES_LENGTH, yikes_write_text(LABS, 10, lens_job, lengths[i], o.bytes, EXAMPLE));
+        DECLINES(YIKES_LENGTH, yikes_write_text(LABS, 10, wide, lengths[i], o.bytes, EXAMPLE));
+        DECLINES(YIKES_LENGTH, yikes_write_text(LABS, 10, wide, lengths[i], NULL, 0));
+        DECLINES(YIKES_LENGTH, yikes_read_text(LABS, right, EXAMPLE, SECOND, o.words, lengths[i]));
+        DECLINES(YIKES_LENGTH, yikes_read_text(LABS, right, EXAMPLE - 1, SECOND, o.words, lengths[i]));
+        DECLINES(YIKES_LENGTH, yikes_read_text(LABS, NULL, 0, SECOND, o.words, lengths[i]));
+    }
+    for (i = 0; i < COUNT(ones); i++) {
+        DECLINES(YIKES_LENGTH, yikes_text_size(LABS, 10, lens_job, 4, o.second, ones[i]));
+        DECLINES(YIKES_LENGTH, yikes_text_size(LABS, 10, wide, 4, o.second, ones[i]));
+        DECLINES(YIKES_LENGTH, yikes_read_text(LABS, right, EXAMPLE, o.second, ones[i], JOB));
+        DECLINES(YIKES_LENGTH, yikes_read_text(LABS, right, EXAMPLE - 1, o.second, ones[i], JOB));
+        DECLINES(YIKES_LENGTH, yikes_read_text(LABS, NULL, 0, o.second, ones[i], JOB));
+    }
+    DECLINES(YIKES_LENGTH, yikes_text_size(LABS, 10, NULL, 0, SECOND));
+    DECLINES(YIKES_LENGTH, yikes_text_size(LABS, 10, wide, 4, NULL, 0));
+    DECLINES(YIKES_LENGTH, yikes_write_text(LABS, 10, NULL, 0, o.bytes, EXAMPLE));
+    DECLINES(YIKES_LENGTH, yikes_write_text(LABS, 10, lens_job, 4, NULL, 0));
+    DECLINES(YIKES_LENGTH, yikes_read_text(LABS, right, EXAMPLE, NULL, 0, JOB));
+    DECLINES(YIKES_LENGTH, yikes_read_text(LABS, NULL, 0, SECOND, NULL, 0));
+    DECLINES(YIKES_TEXT, yikes_read_text(LABS, NULL, 0, SECOND, JOB));
+    for (i = 0; i < COUNT(outs); i++) {
+        DECLINES(YIKES_LENGTH, yikes_write_text(LABS, 10, lens_job, 4, o.bytes, outs[i]));
+        for (j = 0; j < 4; j++) {
+            uint64_t w[4];
+            memcpy(w, lens_job, sizeof w);
+            w[j] = 65536;
+            DECLINES(YIKES_WIDE_WORD, yikes_write_text(LABS, 10, w, 4, o.bytes, outs[i]));
+        }
+    }
+    DECLINES(YIKES_WIDE_WORD, yikes_write_text(LABS, 10, wide, 4, NULL, 0));
+}
+
+/* A wide word in each place, just above the width and far above it. */
+static void text_widths(void) {
+    const uint64_t small[6] = {1, 2, 8, 16, 32, 63};
+    uint64_t w[4];
+    size_t i, j, n;
+    for (i = 0; i < COUNT(small); i++) {
+        const uint64_t k = small[i], above[3] = {UINT64_C(1) << k, UINT64_C(1) << 63, UINT64_MAX};
+        for (j = 0; j < 12; j++) {
+            memset(w, 0, sizeof w);
+            n = text_of((char *)text, k, 7, w);
+            w[j / 3] = above[j % 3];
+            DECLINES(YIKES_WIDE_WORD, yikes_text_size(k, 4, 15, 4, 7, w, 4, SECOND));
+            DECLINES(YIKES_WIDE_WORD, yikes_write_text(k, 4, 15, 4, 7, w, 4, o.bytes, n));
+            DECLINES(YIKES_WIDE_WORD, yikes_write_text(k, 4, 15, 4, 7, w, 4, o.bytes, n + 1));
+        }
+    }
+}
+
 int main(void) {
     elements();
     sharing();
@@ -1081,6 +1511,19 @@ int main(void) {
     desks_largest(64);
     desks_largest(63);
     desks_largest(8);
+    texts();
+    text_ranges();
+    text_values();
+    drawn_texts();
+    near_misses();
+    text_lines();
+    text_bytes(16, example);
+    text_bytes(1, "JOB=0\r\nSPH=0.00\r\nCYL=-0.01\r\nAX=-1\r\nCTHICK=0.00\r\n");
+    text_bytes(64, "JOB=18446744073709551615\r\nSPH=-92233720368547758.08\r\nCYL=92233720368547758.07\r\nAX=-9223372036854775808\r\nCTHICK=1.00\r\n");
+    long_texts();
+    text_books();
+    text_orders();
+    text_widths();
     printf("%lu checks%s\n", checks, failures == 0 ? "" : ", of which some failed");
     return failures == 0 ? 0 : 1;
 }

@@ -2,7 +2,8 @@
  * The stack that each call of include/yikescanvas.h uses, measured: each runs on a stack of its own that was painted before, with the largest
  * parameters at which a word can be wide (d 6, n 63, words of 63 bits), t 20 and 21 wrong shares where it opens, 11 of them wide where it opens one
  * job or mends, and each prints its name and the bytes from the painted stack's top to the lowest one that changed, less what an empty call uses.
- * yikes_add_total runs once more, where a word is wide and it takes off again what it added.
+ * yikes_add_total runs once more, where a word is wide and it takes off again what it added. The calls on job text, which only books with d 4 have,
+ * run with the longest text.
  */
 #define _GNU_SOURCE
 #include <stdint.h>
@@ -18,6 +19,8 @@ enum { K = 63, D = 6, N = 63, T = 20, E = 21, JOBS = 3, STACK = 1 << 20, FILE_BY
 
 static uint64_t job[D], coefficients[T * D], shares[N * D], holders[N], words[N][JOB_WORDS], out[YIKES_ABOUT], wrong[2], dealt[N * D], running[D];
 static uint64_t desk[YIKES_DESK] = {1000, 0};
+static const uint64_t lens_job[4] = {UINT64_C(1) << 63, UINT64_C(1) << 63, UINT64_C(1) << 63, UINT64_C(1) << 63};
+static uint8_t text[135];
 static uint8_t lowest[YIKES_LOWEST];
 static const uint64_t numbers[JOBS] = {1, 20, 300};
 static uint8_t files[N * FILE_BYTES], bundle[7 + N * FILE_BYTES], wide[sizeof bundle], copy[sizeof bundle], line[YIKES_LINE], order[7];
@@ -35,6 +38,9 @@ static void write_order(void) { answer = yikes_write_order(E, order, 7); }
 static void write_bundle(void) { answer = yikes_write_bundle(E, files, sizeof files, copy, sizeof copy); }
 static void check_file(void) { answer = yikes_check_file(files, FILE_BYTES); }
 static void read_step(void) { answer = yikes_read(bundle, sizeof bundle, 0, out, 4); }
+static void text_size(void) { answer = yikes_text_size(64, 4, 15, 14, UINT64_MAX, lens_job, 4, out, 1); }
+static void write_text(void) { answer = yikes_write_text(64, 4, 15, 14, UINT64_MAX, lens_job, 4, text, sizeof text); }
+static void read_text(void) { answer = yikes_read_text(64, 4, 15, 14, text, sizeof text, wrong, 1, out, 4); }
 static void accept(void) { answer = yikes_accept(bundle, sizeof bundle); }
 static void describe(void) { answer = yikes_describe(bundle, sizeof bundle, out, YIKES_ABOUT); }
 static void job_number(void) { answer = yikes_job_number(bundle, sizeof bundle, 1, out, 1); }
@@ -70,6 +76,9 @@ static const struct {
              {"yikes_write_bundle", write_bundle},
              {"yikes_check_file", check_file},
              {"yikes_read", read_step},
+             {"yikes_text_size", text_size},
+             {"yikes_write_text", write_text},
+             {"yikes_read_text", read_text},
              {"yikes_accept", accept},
              {"yikes_describe", describe},
              {"yikes_job_number", job_number},

@@ -53,6 +53,11 @@ impl Row {
         (self.make)(&mut Random::new(1), self.book)
     }
 
+    /// Only books with d 4 have a text.
+    fn there(&self) -> bool {
+        self.book.p.d == 4 || !self.name.contains("text")
+    }
+
     fn adds(&self) -> bool {
         matches!(self.name, "total of 1,000 jobs" | "total of 1,000 jobs added in place" | "open a run")
     }
@@ -105,7 +110,7 @@ fn number(answer: Result<(), Refusal>) -> u8 {
     answer.map_or_else(|refusal| refusal as u8, |()| 0)
 }
 
-const ROWS: [(&str, usize, Make); 18] = [
+const ROWS: [(&str, usize, Make); 20] = [
     ("deal", INPUTS, dealing),
     ("open, none wrong", INPUTS, |random, book| opening(random, book, None)),
     ("open, e wrong in any bits", INPUTS, |random, book| opening(random, book, Some(Damage::AnyBits))),
@@ -124,11 +129,13 @@ const ROWS: [(&str, usize, Make); 18] = [
     ("mend, none wrong", 1, |random, book| mending(random, book, Wrong::Nobody)),
     ("mend, e wrong in each job", 1, |random, book| mending(random, book, Wrong::Different)),
     ("mend, e wrong in each job, beside the listing", 1, mending_beside_listing),
+    ("write the text of a job", INPUTS, writing_texts),
+    ("read the text of a job", INPUTS, reading_texts),
 ];
 
 pub fn all() -> Vec<Row> {
     let others = OTHERS.into_iter().flat_map(of_book).filter(Row::adds);
-    BOOKS.into_iter().flat_map(of_book).chain(others).collect()
+    BOOKS.into_iter().flat_map(of_book).filter(Row::there).chain(others).collect()
 }
 
 /// The rows of a book. No word of 64 bits is wide, so that a row with wide words has 63.
@@ -427,4 +434,52 @@ fn mending_beside_listing(random: &mut Random, book: Book) -> Work {
         };
     });
     Work { out: vec![0], call }
+}
+
+/// Jobs of a book, each with its number and its text. Numbers and words have any number of digits.
+fn texts(random: &mut Random, p: Params) -> Vec<(u64, Vec<u64>, Vec<u8>)> {
+    let text = |_| {
+        let number = random.word() >> random.below(64);
+        let words: Vec<u64> = random.words(p.k, p.d).iter().map(|w| w >> random.below(p.k as usize)).collect();
+        let mut size = [0];
+        second::text_size(p, number, &words, &mut size).expect("good inputs");
+        let mut text = vec![0; size[0] as usize];
+        second::write_text(p, number, &words, &mut text).expect("good inputs");
+        (number, words, text)
+    };
+    (0..INPUTS).map(text).collect()
+}
+
+/// The texts stand one after another.
+fn writing_texts(random: &mut Random, book: Book) -> Work {
+    let (p, inputs) = (book.p, texts(random, book.p));
+    let length = inputs.iter().map(|(_, _, text)| text.len()).sum();
+    let call: Call = Box::new(move |side, out| {
+        let mut rest = as_bytes(out, length);
+        for (job, words, text) in &inputs {
+            let (out, after) = rest.split_at_mut(text.len());
+            let answer = match side {
+                Side::Library => library::write_text(p, *job, words, out),
+                Side::Plain => number(plain::write_text(p, *job, words, out)),
+            };
+            assert_eq!(answer, 0, "a call is declined");
+            rest = after;
+        }
+    });
+    Work { out: vec![0; length.div_ceil(8)], call }
+}
+
+fn reading_texts(random: &mut Random, book: Book) -> Work {
+    let (p, inputs) = (book.p, texts(random, book.p));
+    let call: Call = Box::new(move |side, out| {
+        for ((_, _, text), result) in inputs.iter().zip(out.chunks_mut(1 + p.d)) {
+            let (job, words) = result.split_at_mut(1);
+            let answer = match side {
+                Side::Library => library::read_text(p, text, job, words),
+                Side::Plain => number(plain::read_text(p, text, job, words)),
+            };
+            assert_eq!(answer, 0, "a call is declined");
+        }
+    });
+    Work { out: vec![0; INPUTS * (1 + p.d)], call }
 }

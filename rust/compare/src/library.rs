@@ -127,6 +127,22 @@ pub fn mend(bundle: &[u8], out: &mut [u8]) -> u8 {
     unsafe { yikes_mend(bundle.as_ptr(), bundle.len(), out.as_mut_ptr(), out.len()) }
 }
 
+pub fn text_size(p: Params, number: u64, words: &[u64], size: &mut [u64]) -> u8 {
+    unsafe { yikes_text_size(p.k, p.d, p.n, p.t, number, words.as_ptr(), words.len(), size.as_mut_ptr(), size.len()) }
+}
+
+pub fn write_text(p: Params, number: u64, words: &[u64], out: &mut [u8]) -> u8 {
+    unsafe { yikes_write_text(p.k, p.d, p.n, p.t, number, words.as_ptr(), words.len(), out.as_mut_ptr(), out.len()) }
+}
+
+#[rustfmt::skip]
+pub fn read_text(p: Params, text: &[u8], number: &mut [u64], words: &mut [u64]) -> u8 {
+    unsafe {
+        yikes_read_text(p.k, p.d, p.n, p.t, text.as_ptr(), text.len(),
+            number.as_mut_ptr(), number.len(), words.as_mut_ptr(), words.len())
+    }
+}
+
 pub fn signed(k: u64, w: u64, out: &mut [u64]) -> u8 {
     unsafe { yikes_signed(k, w, out.as_mut_ptr(), out.len()) }
 }

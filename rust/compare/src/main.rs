@@ -1,26 +1,28 @@
-//! `compare --openings N --bundles N --seed S`: the exit code is 1 at the first difference, which is printed in full, and where a kind of lowest bit
-//! or an answer of a desk did not come in a long comparison.
+//! `compare --openings N --bundles N --texts N --seed S`: the exit code is 1 at the first difference, which is printed in full, and where a kind of
+//! lowest bit or an answer of a desk or of a text did not come in a long comparison.
 
 use compare::outcome::Answers;
 use compare::random::Random;
-use compare::{bundles, desk, openings};
+use compare::{bundles, desk, openings, texts};
 use std::process::ExitCode;
 use std::time::Instant;
 
 struct Options {
     openings: u64,
     bundles: u64,
+    texts: u64,
     seed: u64,
 }
 
 fn options() -> Result<Options, String> {
-    let mut options = Options { openings: 200_000, bundles: 20_000, seed: 1 };
+    let mut options = Options { openings: 200_000, bundles: 20_000, texts: 20_000, seed: 1 };
     let mut words = std::env::args().skip(1);
     while let Some(name) = words.next() {
         let value = words.next().and_then(|w| w.parse().ok()).ok_or(format!("{name} needs a number"))?;
         match name.as_str() {
             "--openings" => options.openings = value,
             "--bundles" => options.bundles = value,
+            "--texts" => options.texts = value,
             "--seed" => options.seed = value,
             _ => return Err(format!("unknown option {name}")),
         }
@@ -30,7 +32,7 @@ fn options() -> Result<Options, String> {
 
 type Case = fn(&mut Random, &mut Answers) -> Result<(), String>;
 
-/// So many cases come across every kind of lowest bit of the calls that open, and every answer of a desk.
+/// So many cases come across every kind of lowest bit of the calls that open, and every answer of a desk and of a text.
 const LONG: u64 = 10_000;
 
 /// What a long comparison must come across: lowest bits of these calls, and these answers.
@@ -67,8 +69,10 @@ fn main() -> ExitCode {
     println!("seed {}", options.seed);
     let of_openings = Asked { opens: &["open"], answers: &[] };
     let of_bundles = Asked { opens: &["open_place", "open_run"], answers: &desk::ASKED };
+    let of_texts = Asked { opens: &[], answers: &texts::ASKED };
     let result = run("openings", options.openings, options.seed, openings::opening, of_openings)
-        .and_then(|()| run("bundles", options.bundles, options.seed, bundles::bundle, of_bundles));
+        .and_then(|()| run("bundles", options.bundles, options.seed, bundles::bundle, of_bundles))
+        .and_then(|()| run("texts", options.texts, options.seed, texts::text, of_texts));
     match result {
         Ok(()) => ExitCode::SUCCESS,
         Err(text) => {

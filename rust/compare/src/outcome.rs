@@ -9,10 +9,10 @@ use std::fmt::{Debug, Display, Formatter};
 pub const POISON: u64 = 0xa5a5_a5a5_a5a5_a5a5;
 
 /// The answers that there are: 0 and the numbers of refusals.
-const NUMBERS: usize = 11;
+const NUMBERS: usize = 12;
 
-/// How often each call gave each answer; an opening is counted apart where a word of it is wide, mending by what it did, and a total that is added
-/// and an opening through a desk by what is lent. Of the calls that open, how often the lowest bit of a wrong share was of each kind.
+/// How often each call gave each answer; an opening is counted apart where a word of it is wide, mending by what it did, and a total that is added,
+/// an opening through a desk and a call on a text by what is lent. Of the calls that open, how often the lowest bit of a wrong share was of each kind.
 #[derive(Default)]
 pub struct Answers {
     calls: BTreeMap<&'static str, [u64; NUMBERS]>,

@@ -23,9 +23,11 @@ mod bundle;
 mod decode;
 mod field;
 mod ring;
+mod text;
 
 pub use bundle::{accept, add_total, desk_open, desk_start, mend, open_place, open_run, total};
 pub use second::{Params, Refusal, HOLDERS, NOT_WRONG};
+pub use text::{read_text, text_size, write_text};
 
 use decode::{decode, Shares};
 use ring::{add, eval, mask, mul_by_point};

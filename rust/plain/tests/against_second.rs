@@ -203,6 +203,57 @@ fn desks() {
     assert!([0, 1, 2, 4, 6, 7, 9, 10].iter().all(|number| seen[*number] > 0), "{seen:?}");
 }
 
+/// Jobs and their texts, some with a wide word, a length that is not right or a book without a text, and texts with a byte or the lines changed, or
+/// read in a book of another width: the answers, and the outputs after them.
+#[test]
+fn texts() {
+    let mut random = Random(6);
+    let mut seen = [[0; 12]; 3];
+    let mut count =
+        |call: usize, answer: Result<(), plain::Refusal>| seen[call][answer.map_or_else(|refusal| refusal as usize, |()| 0)] += 1;
+    for _ in 0..20_000 {
+        let (fine, k) = (random.params(), 1 + random.below(64) as u64);
+        let mut p = Params { k: [1, 2, 8, 16, 63, 64, k, k][random.below(8)], d: 4, n: 15, t: 14 };
+        let (number, shift) = (random.word() >> random.below(64), random.below(p.k as usize));
+        let mut words: Vec<u64> = random.words(p.k, 4).iter().map(|w| w >> shift).collect();
+        words[0] = [0, 1 << (p.k - 1), u64::MAX >> (64 - p.k), words[0]][random.below(4)];
+        let mut size = [[7]; 2];
+        second::text_size(p, number, &words, &mut size[1]).unwrap();
+        let mut text = vec![7; size[1][0] as usize];
+        second::write_text(p, number, &words, &mut text).unwrap();
+        match random.below(16) {
+            0 => p = fine,
+            1 => words[3] |= random.high_bit(p.k),
+            2 => words.truncate(random.below(4)),
+            _ => {}
+        }
+        let answers = [plain::text_size(p, number, &words, &mut size[0]), second::text_size(p, number, &words, &mut size[1])];
+        assert_eq!((answers[0], size[0]), (answers[1], if answers[0].is_ok() { size[1] } else { [7] }), "{p:?} {number} {words:?}");
+        count(0, answers[0]);
+        let length = if random.below(8) == 0 { random.below(136) } else { text.len() };
+        let mut outs = [vec![7; length], vec![7; length]];
+        let answers = [plain::write_text(p, number, &words, &mut outs[0]), second::write_text(p, number, &words, &mut outs[1])];
+        assert_eq!((answers[0], &outs[0]), (answers[1], &outs[1]), "{p:?} {number} {words:?}");
+        count(1, answers[0]);
+        let (at, byte) = (random.below(text.len()), b"0123456789-.=\r\n JOX+"[random.below(20)]);
+        match random.below(8) {
+            0 => text[at] = byte,
+            1 => text.insert(at, byte),
+            2 => text.truncate(at),
+            3 => drop(text.remove(at)),
+            4 => p.k = 1 + random.below(64) as u64,
+            5 => text = text.split_inclusive(|b| *b == b'\n').rev().flatten().copied().collect(),
+            _ => {}
+        }
+        let [mut first, mut other] = [0; 2].map(|_| ([7], vec![7; if at == 0 { 3 } else { 4 }]));
+        let answers = [plain::read_text(p, &text, &mut first.0, &mut first.1), second::read_text(p, &text, &mut other.0, &mut other.1)];
+        assert_eq!((answers[0], first), (answers[1], other), "{p:?} {text:?}");
+        count(2, answers[0]);
+    }
+    assert!([0, 1, 2, 3].iter().all(|number| seen[0][*number] > 0 && seen[1][*number] > 0), "{seen:?}");
+    assert!([0, 1, 2, 11].iter().all(|number| seen[2][*number] > 0), "{seen:?}");
+}
+
 #[test]
 fn mending() {
     let mut random = Random(3);

@@ -313,6 +313,196 @@ fn desks_declined_k5() {
     }
 }
 
+const LENS: Params = Params { k: 16, d: 4, n: 3, t: 0 };
+
+/// -3.25, 0.50, 90 and 2.18 in that book, and the text of job 10 with these.
+const LENS_WORDS: [u64; 4] = [(1 << 16) - 325, 50, 90, 218];
+const LENS_LINES: [&str; 5] = ["JOB=10", "SPH=-3.25", "CYL=0.50", "AX=90", "CTHICK=2.18"];
+
+/// A job's text, of the size that it is said to have.
+fn written(p: Params, number: u64, words: [u64; 4]) -> String {
+    let mut size = [77];
+    text_size(p, number, &words, &mut size).unwrap();
+    let mut out = vec![77; size[0] as usize];
+    write_text(p, number, &words, &mut out).unwrap();
+    String::from_utf8(out).unwrap()
+}
+
+/// The number and the words of a text; what is declined leaves the outputs as they were.
+fn job_of(p: Params, text: &[u8]) -> Result<(u64, [u64; 4]), u8> {
+    let (mut number, mut words) = ([77], [88; 4]);
+    let answer = read_text(p, text, &mut number, &mut words);
+    assert!(answer.is_ok() || (number, words) == ([77], [88; 4]));
+    answer.map(|()| (number[0], words)).map_err(|refusal| refusal as u8)
+}
+
+fn lines_text(lines: &[&str]) -> Vec<u8> {
+    lines.iter().flat_map(|line| [line, "\r\n"]).flat_map(str::bytes).collect()
+}
+
+/// Paper 02, K6: the numbers of a text, at the ends of the narrowest and of the widest book, and the job that is read from it again.
+#[test]
+fn texts_k6() {
+    assert_eq!(written(LENS, 10, LENS_WORDS).as_bytes(), lines_text(&LENS_LINES));
+    let book = |k: u64| Params { k, ..LENS };
+    let text = |k: u64, values: [i64; 4]| written(book(k), u64::MAX, values.map(|value| value as u64 & u64::MAX >> (64 - k)));
+    for (k, values, lines) in [
+        (1, [-1, 0, -1, -1], ["SPH=-0.01", "CYL=0.00", "AX=-1", "CTHICK=-0.01"]),
+        (2, [1, -2, -2, 0], ["SPH=0.01", "CYL=-0.02", "AX=-2", "CTHICK=0.00"]),
+        (8, [127, -128, 127, -128], ["SPH=1.27", "CYL=-1.28", "AX=127", "CTHICK=-1.28"]),
+        (16, [5, -5, 0, -100], ["SPH=0.05", "CYL=-0.05", "AX=0", "CTHICK=-1.00"]),
+        (16, [99, -99, 100, 100], ["SPH=0.99", "CYL=-0.99", "AX=100", "CTHICK=1.00"]),
+        (
+            64,
+            [i64::MAX, i64::MIN, i64::MIN, i64::MIN],
+            ["SPH=92233720368547758.07", "CYL=-92233720368547758.08", "AX=-9223372036854775808", "CTHICK=-92233720368547758.08"],
+        ),
+    ] {
+        let expected = [&["JOB=18446744073709551615"][..], &lines].concat();
+        let (text, words) = (text(k, values), values.map(|value| value as u64 & u64::MAX >> (64 - k)));
+        assert_eq!(text.as_bytes(), lines_text(&expected));
+        assert_eq!(job_of(book(k), text.as_bytes()), Ok((u64::MAX, words)));
+        assert_eq!(job_of(book(k), text.replace("18446744073709551615", "0").as_bytes()), Ok((0, words)));
+    }
+    assert_eq!(written(book(64), u64::MAX, [1 << 63; 4]).len(), 135);
+}
+
+/// What stands instead of one line of the text and is declined, all cuts of the text and all that could follow it, and lines in another order.
+#[test]
+fn near_misses_k6() {
+    let lens = lines_text(&LENS_LINES);
+    let decline = |text: &[u8]| assert_eq!(job_of(LENS, text), Err(11), "{}", String::from_utf8_lossy(text));
+    let instead = |place: usize, line: &str| {
+        let mut lines = LENS_LINES;
+        lines[place] = line;
+        decline(&lines_text(&lines));
+    };
+    for value in
+        ["", "-", "-0", "-10", "+10", "010", "10.00", " 10", "10 ", "18446744073709551616", "100000000000000000000", "18446744073709551626"]
+    {
+        instead(0, &format!("JOB={value}"));
+    }
+    for (place, label) in [(1, "SPH"), (2, "CYL"), (4, "CTHICK")] {
+        let forms =
+            ["", "-0.00", "+1.00", "01.00", "-01.00", ".50", "-.50", "1.5", "1.500", "1", "1.", "1,50", "1.50 ", "- 1.50", "1e2", "--1.50"];
+        let ranges = ["327.68", "-327.69", "655.36", "184467440737095516.16", "340282366920938463463374607431768211456.00"];
+        forms.iter().chain(&ranges).for_each(|value| instead(place, &format!("{label}={value}")));
+    }
+    for value in ["", "-0", "+90", "090", "-090", "90.0", "90.00", "90 ", "32768", "-32769", "65626", "18446744073709551706"] {
+        instead(3, &format!("AX={value}"));
+    }
+    for (place, line) in LENS_LINES.into_iter().enumerate() {
+        let (label, value) = line.split_once('=').unwrap();
+        for other in
+            [line.to_lowercase(), format!("{label} ={value}"), format!("{label}= {value}"), format!("{label}:{value}"), format!(" {line}")]
+        {
+            instead(place, &other);
+        }
+        ["", label, value].iter().for_each(|other| instead(place, other));
+        for end in ["\r", "\n", "\0", "\r\n", " "] {
+            instead(place, &format!("{line}{end}"));
+        }
+        instead(place, LENS_LINES[(place + 1) % 5]);
+        instead(place, &format!("{line}\r\n{line}"));
+        decline(&lines_text(&[&LENS_LINES[..place], &LENS_LINES[place + 1..]].concat()));
+        let mut swapped = LENS_LINES;
+        swapped.swap(place, (place + 1) % 5);
+        decline(&lines_text(&swapped));
+    }
+    (0..lens.len()).for_each(|cut| decline(&lens[..cut]));
+    let ended = |end: &str| LENS_LINES.map(|line| format!("{line}{end}")).concat();
+    ["\n", "\r", "\n\r", ""].iter().for_each(|end| decline(ended(end).as_bytes()));
+    [&b"\0"[..], b"\r", b"\n", b" ", b"\r\n", b"JOB=10\r\n", &lens].iter().for_each(|end| decline(&[&lens, *end].concat()));
+}
+
+/// On every text that is one byte away: what is read is another number, whose text it is.
+#[test]
+fn one_byte_away_k6() {
+    let lens = lines_text(&LENS_LINES);
+    let mut read = 0;
+    for (at, byte) in (0..lens.len()).flat_map(|at| (0..=255).map(move |byte| (at, byte))) {
+        let mut other = lens.clone();
+        other[at] = byte;
+        if let Ok((number, words)) = job_of(LENS, &other) {
+            assert_eq!(written(LENS, number, words).as_bytes(), other);
+            read += 1;
+        }
+    }
+    // the text itself, once for each byte; what the digits of 10, -3.25, 0.50, 90 and 2.18 may be instead, and the minus sign
+    assert_eq!(read, lens.len() + (8 + 9) + 4 * 9 + 3 * 9 + (8 + 9) + 3 * 9);
+}
+
+/// Which refusal comes first, of books that have no text too, and that outputs stay as they were.
+#[test]
+fn texts_declined_k6() {
+    let write = |p, words: &[u64], length| {
+        let mut out = vec![77; length];
+        let answer = write_text(p, 10, words, &mut out);
+        assert!(answer.is_ok() || out.iter().all(|b| *b == 77));
+        answer.err().map(|refusal| refusal as u8)
+    };
+    let size = |p, words: &[u64], length| {
+        let mut size = vec![77; length];
+        let answer = text_size(p, 10, words, &mut size);
+        assert!(answer.is_ok() || size.iter().all(|w| *w == 77));
+        answer.err().map(|refusal| refusal as u8)
+    };
+    let read = |p, text: &[u8], lengths: [usize; 2]| {
+        let [mut number, mut words] = lengths.map(|length| vec![77; length]);
+        let answer = read_text(p, text, &mut number, &mut words);
+        assert!(answer.is_ok() || number.iter().chain(&words).all(|w| *w == 77));
+        answer.err().map(|refusal| refusal as u8)
+    };
+    let (lens, right, wide) = (lines_text(&LENS_LINES), LENS_WORDS, [1 << 16, 0, 0, 0]);
+    let of_d = |d| Params { d, ..LENS };
+    let others = [0, 1, 2, 3, 5, 6, 7].map(of_d).into_iter().chain([0, 65].map(|k| Params { k, ..LENS }));
+    for p in others.chain([Params { n: 16, ..LENS }, Params { n: 0, ..LENS }, Params { t: 3, ..LENS }]) {
+        assert_eq!([write(p, &right, lens.len()), write(p, &[], 0), write(p, &wide, 0)], [Some(1); 3]);
+        assert_eq!([size(p, &right, 1), size(p, &wide, 0), size(p, &[], 1)], [Some(1); 3]);
+        assert_eq!([read(p, &lens, [1, 4]), read(p, &[], [0, 0]), read(p, &lens, [1, p.d.min(9)])], [Some(1); 3]);
+    }
+    for words in [&[][..], &right[..3], &[right[0], right[1], right[2], right[3], 0], &[1 << 16; 5]] {
+        assert_eq!([write(LENS, words, lens.len()), write(LENS, words, 0), size(LENS, words, 1), size(LENS, words, 0)], [Some(2); 4]);
+    }
+    for wide in [wide, [0, 0, 0, 1 << 16], [u64::MAX; 4]] {
+        assert_eq!([0, lens.len(), 135].map(|length| write(LENS, &wide, length)), [Some(3); 3]);
+        assert_eq!([0, 1, 2].map(|length| size(LENS, &wide, length)), [Some(2), Some(3), Some(2)]);
+    }
+    assert_eq!([0, 1, 2].map(|length| size(LENS, &right, length)), [Some(2), None, Some(2)]);
+    let n = lens.len();
+    assert_eq!([0, n - 1, n, n + 1, 2 * n].map(|length| write(LENS, &right, length)), [Some(2), Some(2), None, Some(2), Some(2)]);
+    for lengths in [[0, 4], [2, 4], [1, 0], [1, 3], [1, 5], [4, 1]] {
+        assert_eq!([read(LENS, &lens, lengths), read(LENS, &lens[1..], lengths)], [Some(2); 2]);
+    }
+    assert_eq!([read(LENS, &lens, [1, 4]), read(LENS, &lens[1..], [1, 4])], [None, Some(11)]);
+}
+
+/// What `jobtext` prints: a job that opens in spite of a wrong share, and one that answers 6 or, with a file less, 5; books that have no text.
+#[test]
+fn the_program_k6() {
+    let zero = [0; 4];
+    let mut bundle = vec![0; 7];
+    write_order(1, &mut bundle).unwrap();
+    for (holder, words) in [(1, [LENS_WORDS, LENS_WORDS]), (2, [LENS_WORDS, zero]), (3, [zero, [1, 0, 0, 0]])] {
+        let mut file = vec![0; 23 + 2 * 46];
+        write_file(LENS, holder, 7, &[10, 11], &words.concat(), &mut file).unwrap();
+        bundle.extend(file);
+    }
+    assert_eq!(texts(&bundle), written(LENS, 10, LENS_WORDS) + "11 refused 6\n");
+    assert_eq!(texts(&bundle[..7 + 2 * 115]), "10 refused 5\n11 refused 5\n");
+    assert_eq!(
+        [texts(&bundle[1..]), texts(&example_bundle()), texts(&example_bundle()[..255])],
+        ["refused 7\n", "refused 1\n", "refused 7\n"]
+    );
+    assert_eq!([texts(&[3; 65_536]), texts(&[3; 65_537])], ["refused 7\n", "refused 2\n"]);
+    for (d, printed) in [(3, "refused 1\n"), (4, "")] {
+        let mut empty = vec![0; 30];
+        write_order(0, &mut empty[..7]).unwrap();
+        write_file(Params { d, ..LENS }, 1, 7, &[], &[], &mut empty[7..]).unwrap();
+        assert_eq!(texts(&empty), printed);
+    }
+}
+
 #[test]
 fn ranges_of_a_book() {
     let p = |n, t| Params { k: 64, d: 4, n, t }.check();

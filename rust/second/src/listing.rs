@@ -7,7 +7,7 @@ use crate::{demand, Refusal};
 pub const LINE: usize = 1024;
 
 /// A word of k bits below 2^(k - 1) means itself; another one means itself less 2^k.
-fn read_signed(k: u64, w: u64) -> i128 {
+pub(crate) fn read_signed(k: u64, w: u64) -> i128 {
     let w = i128::from(w);
     if w < 1 << (k - 1) {
         w

@@ -6,10 +6,10 @@ use crate::sharing::corrections;
 use crate::{demand, Refusal};
 
 /// The most bytes that a program reads.
-const INPUT: usize = 65_536;
+pub(crate) const INPUT: usize = 65_536;
 
 impl Bundle {
-    fn places(&self) -> std::ops::Range<usize> {
+    pub(crate) fn places(&self) -> std::ops::Range<usize> {
         0..self.files[0].jobs.len()
     }
 

@@ -96,6 +96,9 @@ fn main() -> Result<(), Refusal> {
         print!("{}", String::from_utf8_lossy(&line[..n]));
     }
 
+    // the first job as a surfacing machine reads it
+    println!("the first as text: {}", job_text(BOOK, numbers[0], &jobs[0])?.escape_ascii());
+
     // the totals, opened while each job stays closed, and read as signed numbers: they are the sums of what was dealt
     let mut sums = [0; 4];
     let wrong = open_run(&bundle, 0, JOBS, &mut sums)?.wrong;
@@ -120,6 +123,10 @@ fn main() -> Result<(), Refusal> {
     println!("job 366: {}", open_place(&bundle, JOBS, &mut sums).unwrap_err());
     println!("six files alone: {}", six(&files, size)?);
     println!("a fourth job at a desk that allows three: {}", fourth(&bundle)?);
+    println!(
+        "text with a leading zero: {}",
+        read_text(BOOK, b"JOB=1000\r\nSPH=-5.25\r\nCYL=-1.25\r\nAX=019\r\nCTHICK=0.70\r\n").unwrap_err()
+    );
     bundle.pop();
     println!("a byte less: {}", accept(&bundle).unwrap_err());
     println!("word {MASK} reads {}", signed(BOOK.k, MASK)?);

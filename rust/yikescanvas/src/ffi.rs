@@ -31,6 +31,16 @@ extern "C" {
     pub fn yikes_write_bundle(e: u8, files: *const u8, files_length: usize, out: *mut u8, out_length: usize) -> c_uchar;
     pub fn yikes_check_file(file: *const u8, file_length: usize) -> c_uchar;
     pub fn yikes_read(bytes: *const u8, bytes_length: usize, cursor: usize, step: *mut u64, step_length: usize) -> c_uchar;
+    pub fn yikes_text_size(
+        k: u64, d: usize, n: usize, t: usize, number: u64, words: *const u64, words_length: usize, size: *mut u64, size_length: usize,
+    ) -> c_uchar;
+    pub fn yikes_write_text(
+        k: u64, d: usize, n: usize, t: usize, number: u64, words: *const u64, words_length: usize, out: *mut u8, out_length: usize,
+    ) -> c_uchar;
+    pub fn yikes_read_text(
+        k: u64, d: usize, n: usize, t: usize,
+        text: *const u8, text_length: usize, number: *mut u64, number_length: usize, words: *mut u64, words_length: usize,
+    ) -> c_uchar;
     pub fn yikes_accept(bundle: *const u8, bundle_length: usize) -> c_uchar;
     pub fn yikes_describe(bundle: *const u8, bundle_length: usize, about: *mut u64, about_length: usize) -> c_uchar;
     pub fn yikes_job_number(

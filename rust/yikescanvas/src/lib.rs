@@ -35,7 +35,7 @@ pub struct Params {
 /// Why a call declines, with the numbers of papers 01 and 02.
 #[derive(Clone, Copy, Debug, PartialEq, Eq)]
 pub enum Refusal {
-    /// 1: a number of the book, the number of jobs, or a desk's allowance is out of its range.
+    /// 1: a number of the book, the number of jobs, or a desk's allowance is out of its range, or d is not 4 in a call on job text.
     Parameters,
     /// 2: a list or an output has not the length that the call needs.
     Length,
@@ -55,13 +55,15 @@ pub enum Refusal {
     OutOfRange,
     /// 10: the desk's count is its allowance or more.
     DeskClosed,
+    /// 11: bytes that are the text of no job of the book.
+    Text,
     /// A number that this crate does not know, of a library that is newer than it.
     Unknown(u8),
 }
 
 impl Refusal {
     /// Every refusal that this crate knows, in the order of the numbers.
-    pub const ALL: [Refusal; 10] = [
+    pub const ALL: [Refusal; 11] = [
         Refusal::Parameters,
         Refusal::Length,
         Refusal::WideWord,
@@ -72,6 +74,7 @@ impl Refusal {
         Refusal::Mismatched,
         Refusal::OutOfRange,
         Refusal::DeskClosed,
+        Refusal::Text,
     ];
 
     /// The papers' number.
@@ -87,6 +90,7 @@ impl Refusal {
             Refusal::Mismatched => 8,
             Refusal::OutOfRange => 9,
             Refusal::DeskClosed => 10,
+            Refusal::Text => 11,
             Refusal::Unknown(number) => number,
         }
     }
@@ -113,6 +117,7 @@ impl std::fmt::Display for Refusal {
             Refusal::Mismatched => "files that do not belong together",
             Refusal::OutOfRange => "a place that is not there",
             Refusal::DeskClosed => "a closed desk",
+            Refusal::Text => "text of no job",
             Refusal::Unknown(_) => "a number that is not known",
         };
         write!(f, "{text} ({})", self.number())
@@ -319,6 +324,58 @@ impl<'a> Iterator for Records<'a> {
             Err(refusal) => Some(Err(refusal)),
         }
     }
+}
+
+/// How many bytes the text of a lens job has, of a book with d 4.
+pub fn text_size(p: Params, number: u64, words: &[u64]) -> Result<usize, Refusal> {
+    let mut size = [0];
+    told(unsafe { ffi::yikes_text_size(p.k, p.d, p.n, p.t, number, words.as_ptr(), words.len(), size.as_mut_ptr(), size.len()) })?;
+    Ok(size[0] as usize)
+}
+
+/// Writes the text of a lens job, of a book with d 4, into [`text_size`] bytes: five lines, each ended by CR LF, with the job number, sphere,
+/// cylinder, axis and thickness.
+pub fn write_text(p: Params, number: u64, words: &[u64], out: &mut [u8]) -> Result<(), Refusal> {
+    told(unsafe { ffi::yikes_write_text(p.k, p.d, p.n, p.t, number, words.as_ptr(), words.len(), out.as_mut_ptr(), out.len()) })
+}
+
+/// The text that [`write_text`] writes.
+pub fn job_text(p: Params, number: u64, words: &[u64]) -> Result<Vec<u8>, Refusal> {
+    let mut out = vec![0; text_size(p, number, words)?];
+    write_text(p, number, words, &mut out)?;
+    Ok(out)
+}
+
+/// The number and the words of the lens job whose text this is. Bytes that [`write_text`] writes of no job of the book decline.
+///
+/// ```
+/// use yikescanvas::{job_text, read_text, Params, Refusal};
+///
+/// let book = Params { k: 16, d: 4, n: 15, t: 4 };
+/// let text = b"JOB=10\r\nSPH=-3.25\r\nCYL=0.50\r\nAX=90\r\nCTHICK=2.18\r\n";
+/// let (number, words) = read_text(book, text)?;
+/// assert_eq!((number, words), (10, [65536 - 325, 50, 90, 218]));
+/// assert_eq!(job_text(book, number, &words)?, text);
+/// assert_eq!(read_text(book, &text[1..]), Err(Refusal::Text));
+/// # Ok::<(), Refusal>(())
+/// ```
+pub fn read_text(p: Params, text: &[u8]) -> Result<(u64, [u64; 4]), Refusal> {
+    let (mut number, mut words) = ([0], [0; 4]);
+    told(unsafe {
+        ffi::yikes_read_text(
+            p.k,
+            p.d,
+            p.n,
+            p.t,
+            text.as_ptr(),
+            text.len(),
+            number.as_mut_ptr(),
+            number.len(),
+            words.as_mut_ptr(),
+            words.len(),
+        )
+    })?;
+    Ok((number[0], words))
 }
 
 /// Whether a bundle is accepted.

@@ -71,7 +71,7 @@ fn numbers_are_the_papers() {
         assert!(refusal.to_string().ends_with(&format!("({})", i + 1)));
     }
     assert_eq!(Refusal::from_number(0), None);
-    for number in [11, 12, 255] {
+    for number in [12, 13, 255] {
         assert_eq!(Refusal::from_number(number), Some(Refusal::Unknown(number)));
         assert_eq!(Refusal::Unknown(number).number(), number);
         assert!(Refusal::Unknown(number).to_string().ends_with(&format!("({number})")));
@@ -639,4 +639,178 @@ fn desk_months() {
     assert_eq!(list_line(&bundle, 0, &mut [0; LINE]), Ok(17));
     assert_eq!(mended(&bundle), right);
     assert_eq!(desk.record(), [1, 1]);
+}
+
+/// The labs' own book, with words of k bits.
+fn lens(k: u64) -> Params {
+    Params { k, d: 4, n: 15, t: 4 }
+}
+
+/// The job of paper 02's five lines: 10, and (-325, 50, 90, 218) in words of 16 bits.
+const TEXT: &str = "JOB=10\r\nSPH=-3.25\r\nCYL=0.50\r\nAX=90\r\nCTHICK=2.18\r\n";
+const LENS_JOB: [u64; 4] = [65536 - 325, 50, 90, 218];
+
+/// The text of a number and of four values.
+fn text_of(number: u64, values: [i128; 4]) -> String {
+    let [sphere, cylinder, axis, thickness] = values;
+    let hundredths = |v: i128| format!("{}{}.{:02}", if v < 0 { "-" } else { "" }, v.abs() / 100, v.abs() % 100);
+    let (sphere, cylinder, thickness) = (hundredths(sphere), hundredths(cylinder), hundredths(thickness));
+    format!("JOB={number}\r\nSPH={sphere}\r\nCYL={cylinder}\r\nAX={axis}\r\nCTHICK={thickness}\r\n")
+}
+
+/// A job whose text this is: the length is told, the text is written, into its own length alone, and read again.
+fn one_job(k: u64, number: u64, words: [u64; 4], text: &str) {
+    let (p, n) = (lens(k), text.len());
+    assert_eq!(text_size(p, number, &words), Ok(n));
+    let mut out = vec![0xa5; n + 2];
+    assert_eq!(write_text(p, number, &words, &mut out[1..=n]), Ok(()));
+    assert_eq!(out[1..=n].escape_ascii().to_string(), text.as_bytes().escape_ascii().to_string());
+    assert_eq!((out[0], out[n + 1]), (0xa5, 0xa5));
+    assert_eq!(job_text(p, number, &words).as_deref(), Ok(text.as_bytes()));
+    assert_eq!(read_text(p, text.as_bytes()), Ok((number, words)));
+    for other in [0, n - 1, n + 1, 2 * n] {
+        declines_bytes(Refusal::Length, other, |o| write_text(p, number, &words, o));
+    }
+}
+
+/// Known texts, and for each width the least and the greatest value of a word, in each line; those below and above are no text.
+#[test]
+fn texts() {
+    one_job(16, 10, LENS_JOB, TEXT);
+    one_job(8, 9, [5, 251, 255, 156], "JOB=9\r\nSPH=0.05\r\nCYL=-0.05\r\nAX=-1\r\nCTHICK=-1.00\r\n");
+    one_job(1, 0, [1, 0, 1, 0], "JOB=0\r\nSPH=-0.01\r\nCYL=0.00\r\nAX=-1\r\nCTHICK=0.00\r\n");
+    one_job(64, u64::MAX, [u64::MAX; 4], "JOB=18446744073709551615\r\nSPH=-0.01\r\nCYL=-0.01\r\nAX=-1\r\nCTHICK=-0.01\r\n");
+    let least = "-92233720368547758.08";
+    let longest = format!("JOB=18446744073709551615\r\nSPH={least}\r\nCYL={least}\r\nAX=-9223372036854775808\r\nCTHICK={least}\r\n");
+    assert_eq!(longest.len(), 135);
+    one_job(64, u64::MAX, [1 << 63; 4], &longest);
+
+    // where a digit more is needed
+    for power in (0..20).map(|i| 10_u64.pow(i)) {
+        for number in [power - 1, power, power + 1] {
+            let small = number.min(i64::MAX as u64);
+            one_job(64, number, [small; 4], &text_of(number, [small.into(); 4]));
+            one_job(64, number, [small.wrapping_neg(); 4], &text_of(number, [-i128::from(small); 4]));
+        }
+    }
+    for k in 1..=64 {
+        let (high, mask) = (1_i128 << (k - 1), u64::MAX >> (64 - k));
+        for value in [-high, 1 - high, high / -2, -100, -99, -10, -1, 0, 1, 9, 10, 99, 100, high / 2, high - 1] {
+            let value = value.clamp(-high, high - 1);
+            let word = value as u64 & mask;
+            one_job(k, word, [word; 4], &text_of(word, [value; 4]));
+            for at in 0..4 {
+                let (mut words, mut values) = ([0; 4], [0; 4]);
+                (words[at], values[at]) = (word, value);
+                one_job(k, !word, words, &text_of(!word, values));
+            }
+        }
+        // with a power of two more or less they would be the same word
+        for value in [-high - 1, high, high + 1, 2 * high - 1, 2 * high, -2 * high, 1 << 64, (1 << 64) - 1, -(1 << 64)] {
+            for at in 0..4 {
+                let mut values = [0; 4];
+                values[at] = value;
+                assert_eq!(read_text(lens(k), text_of(7, values).as_bytes()), Err(Refusal::Text));
+            }
+        }
+    }
+}
+
+/// 1 before all else; then 2 for the words, 3, 2 for the text.
+#[test]
+fn text_orders() {
+    let mut books = outside();
+    books.extend([2, 3, 5, 6, 260].map(|d| Params { k: 16, d, n: 3, t: 1 }));
+    books.extend([0, 65, 272, u64::MAX].map(|k| Params { k, ..lens(16) }));
+    books.extend([0, 16, usize::MAX].map(|n| Params { n, ..lens(16) }));
+    books.extend([15, 16, usize::MAX].map(|t| Params { t, ..lens(16) }));
+    for p in books {
+        for words in [&LENS_JOB[..], &[65536; 4], &[65536; 5], &[]] {
+            assert_eq!(text_size(p, 10, words), Err(Refusal::Parameters));
+            assert_eq!(job_text(p, 10, words), Err(Refusal::Parameters));
+            for n in [0, TEXT.len()] {
+                declines_bytes(Refusal::Parameters, n, |o| write_text(p, 10, words, o));
+            }
+        }
+        for text in [TEXT, ""] {
+            assert_eq!(read_text(p, text.as_bytes()), Err(Refusal::Parameters));
+        }
+    }
+    for n in [0, 1, 2, 3, 5, 8] {
+        for word in [0, 65536] {
+            assert_eq!(text_size(lens(16), 10, &vec![word; n]), Err(Refusal::Length));
+            assert_eq!(job_text(lens(16), 10, &vec![word; n]), Err(Refusal::Length));
+            declines_bytes(Refusal::Length, TEXT.len(), |o| write_text(lens(16), 10, &vec![word; n], o));
+        }
+    }
+    for k in [1, 2, 8, 16, 63] {
+        for (at, word) in (0..12).map(|i| (i / 3, [1 << k, 1 << 63, u64::MAX][i % 3])) {
+            let mut words = [0; 4];
+            words[at] = word;
+            assert_eq!(text_size(lens(k), 10, &words), Err(Refusal::WideWord));
+            assert_eq!(job_text(lens(k), 10, &words), Err(Refusal::WideWord));
+            for n in [0, 1, 47, TEXT.len(), 135, 1000] {
+                declines_bytes(Refusal::WideWord, n, |o| write_text(lens(k), 10, &words, o));
+            }
+        }
+    }
+    for n in (0..200).filter(|n| *n != TEXT.len()) {
+        declines_bytes(Refusal::Length, n, |o| write_text(lens(16), 10, &LENS_JOB, o));
+    }
+    // every book with d 4 has the same text
+    for (n, t) in [(1, 0), (2, 1), (15, 0), (15, 14)] {
+        let p = Params { k: 16, d: 4, n, t };
+        assert_eq!(job_text(p, 10, &LENS_JOB).as_deref(), Ok(TEXT.as_bytes()));
+        assert_eq!(read_text(p, TEXT.as_bytes()), Ok((10, LENS_JOB)));
+    }
+}
+
+/// Text that no job has: one line of the example in another form, less, more or in another place; and every beginning of it.
+#[test]
+fn other_texts() {
+    let none = |text: &str| assert_eq!(read_text(lens(16), text.as_bytes()), Err(Refusal::Text), "{}", text.escape_debug());
+    let lines = ["JOB=10", "SPH=-3.25", "CYL=0.50", "AX=90", "CTHICK=2.18"];
+    let with = |at: usize, line: &str| {
+        lines.iter().enumerate().map(|(i, l)| if i == at { line.into() } else { format!("{l}\r\n") }).collect::<String>()
+    };
+    assert_eq!(with(5, ""), TEXT);
+    for (at, line) in lines.iter().enumerate() {
+        let (label, value) = line.split_once('=').unwrap();
+        let whole = at == 0 || at == 3;
+        for other in ["", "-", "-0", "+1", "01", "-01", "00", " 1", "1 ", "1.", ".", "a", "1a", "1\r", "1\n"] {
+            none(&with(at, &format!("{label}={other}\r\n")));
+        }
+        for other in ["-0.00", "+1.00", "01.00", "-01.00", ".50", "-.50", "1.5", "1.500", "1,50", "1.5 ", "1. 5", "- 1.00", "1.-1"] {
+            none(&with(at, &format!("{label}={other}\r\n")));
+        }
+        for other in if whole { ["1.00", "0.50"] } else { ["1", "50"] } {
+            none(&with(at, &format!("{label}={other}\r\n")));
+        }
+        for end in ["", "\n", "\r", "\n\r", "\r\r\n", " \r\n", "\r\n ", "\r\n\r\n", "\r\nJOB=10\r\n", "\r\nCTHICK=2.18\r\n"] {
+            none(&with(at, &format!("{line}{end}")));
+        }
+        for label in [label.to_lowercase(), format!(" {label}"), format!("{label} "), format!("{label}="), label[1..].into(), "D".into()] {
+            none(&with(at, &format!("{label}={value}\r\n")));
+        }
+        none(&with(at, &format!("{label}{value}\r\n")));
+        none(&with(at, &format!("{label}:{value}\r\n")));
+        none(&with(at, ""));
+        none(&with(at, &format!("{line}\r\n{line}\r\n")));
+        none(&with(at, &format!("{}\r\n", lines[(at + 1) % 5])));
+    }
+    for number in ["-1", "18446744073709551616", "18446744073709551626", "99999999999999999999", "36893488147419103242"] {
+        none(&with(0, &format!("JOB={number}\r\n")));
+    }
+    for n in 0..TEXT.len() {
+        none(&TEXT[..n]);
+        none(&TEXT[n + 1..]);
+    }
+    none(&TEXT.repeat(2));
+    for byte in 0..=255 {
+        for at in [0, 8, TEXT.len()] {
+            let mut text = TEXT.as_bytes().to_vec();
+            text.insert(at, byte);
+            assert_eq!(read_text(lens(16), &text), Err(Refusal::Text));
+        }
+    }
 }
