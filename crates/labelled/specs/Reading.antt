@@ -1,5 +1,5 @@
 -- Reading job text, paper 02, K6: "Text that export would not write is declined". So the numbers are looked for without any rule, and what they are
--- written as is compared with the text: `text-exact` (proofs/Exact) says that this accepts the texts of jobs, and no other. Assumes nothing.
+-- written as is compared with the text; that this accepts the texts of jobs, and no other, is proved in proofs/. Assumes nothing.
 use Prim.Native.Nat.{ℕ, _+_, _-_, _*_, _%_, _^_}
 use mathlib.Core.Bool.{Bool, true, false, cond, _&&_}
 use mathlib.Core.List.{List, [], _∷_}

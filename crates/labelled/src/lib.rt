@@ -2,7 +2,7 @@
 ghost use mathlib.Core.Path.{_≡_};
 ghost use mathlib.Core.Bool.{true};
 ghost use mathlib.Core.List.{[], _∷_};
-ghost use Prim.Native.Nat.{_+_, _-_, _≤_};
+ghost use Prim.Native.Nat.{_+_, _≤_};
 ghost use lib.ListN.{length, drop};
 ghost use Rattle.words.specs.Refusal.{kept};
 ghost use Rattle.words.specs.Word.{allInWidth};
@@ -95,7 +95,7 @@ pub fn lens_job(k: u64, number: u64, words: &[u64]) -> LensJob
 
 // ---- reading
 
-// A number goes on by a byte.
+// A number goes on by a byte: a minus sign, a digit, or one that is passed over.
 fn go_on(s: Signed, c: u8) -> Signed
     ensures { λ r. ⌜ r ≡ goesOn s c ⌝ }
 {
@@ -105,15 +105,15 @@ fn go_on(s: Signed, c: u8) -> Signed
             magnitude: s.magnitude,
         };
     }
-    if c < 48 {
+    if c < b'0' {
         return s;
     }
-    if 57 < c {
+    if b'9' < c {
         return s;
     }
     Signed {
         negative: s.negative,
-        magnitude: std::num::wrapping_add_u64(words::mul64(s.magnitude, 10), (c - 48) as u64),
+        magnitude: std::num::wrapping_add_u64(words::mul64(s.magnitude, 10), (c - b'0') as u64),
     }
 }
 
@@ -131,7 +131,7 @@ fn scan_line(text: &[u8], at: usize) -> Line
     while i < text.len() {
         let c = text[i];
         i += 1;
-        if c == 10 {
+        if c == b'\n' {
             return Line { value, end: i };
         }
         value = go_on(value, c);
