@@ -1,7 +1,7 @@
 -- What accepting an input for its job text gives: as for the listing, but 1 where the book has another d. Assumes nothing.
-use mathlib.Core.Path.{_≡_, refl, sym, ap, _∙_}
+use mathlib.Core.Path.{_≡_, sym, ap, _∙_}
 use mathlib.Core.List.{List}
-use Prim.Native.Nat.{ℕ, zero, suc}
+use Prim.Native.Nat.{ℕ}
 use borrow.Author.Tests.{eqb-true, eq-eqb, ne-eqb}
 use lib.Dec.{eqb, lit<}
 use Rattle.words.specs.Refusal.{unless, kept}
@@ -11,7 +11,7 @@ use Rattle.bundle.specs.Bundle.{bundleFault, bundleHeading, filesOf, noHeading,
 use Rattle.bundle.specs.declared.Accepted.{Accepted}
 use Rattle.listing.specs.Listing.{inputFault}
 use Rattle.listing.specs.Pieces.{acceptedBy, acceptedInput}
-use Rattle.listing.proofs.Input.{fault-none, fault-is, input-heading}
+use Rattle.listing.proofs.Input.{fault-none, count-by, fault-is, input-heading}
 use Rattle.exporting.specs.Export.{exportFault, acceptedExport, exportPieces}
 
 -- ---- by what accepting the input for the listing gave
@@ -77,8 +77,4 @@ module _ (bs : List ℕ) (r : Accepted) (e : r ≡ acceptedExport bs) where
 -- how many pieces there are
 pub pieces-count : (bs : List ℕ) (r : Accepted) → r ≡ acceptedExport bs → kept (r .fault) 1 (r .heading .jobs) ≡ exportPieces bs
 unfolding acceptedExport exportPieces
-pieces-count bs r e = rw e (go (exportFault bs))
-  where
-    go : (n : ℕ) → kept n 1 (kept n noHeading (bundleHeading bs) .jobs) ≡ kept n 1 (bundleHeading bs .jobs)
-    go zero = refl
-    go (suc n) = refl
+pieces-count bs r e = rw e (count-by bs (exportFault bs))

@@ -7,14 +7,14 @@ use native.Mathlib.Omega.{arith}
 use borrow.Author.Tests.{le-ltb, lt-ltb}
 use lib.Dec.{leb}
 use lib.ListN.{length}
-use Rattle.words.specs.Refusal.{unless, LENGTH}
+use Rattle.words.specs.Refusal.{unless, kept, LENGTH}
 use Rattle.words.proofs.Refusal.{first-right, kept-none}
 use Rattle.records.specs.declared.Heading.{Heading}
 use Rattle.bundle.specs.Bundle.{bundleFault, bundleHeading, filesOf, noHeading, accepted}
 use Rattle.bundle.specs.declared.Accepted.{Accepted}
 use Rattle.text.specs.Text.{headLine, refusedLine}
 use Rattle.listing.specs.Listing.{lineOf, mostInput, inputFault}
-use Rattle.listing.specs.Pieces.{pieceBy, piece, acceptedInput}
+use Rattle.listing.specs.Pieces.{pieceBy, piece, acceptedBy, acceptedInput}
 use Rattle.listing.proofs.Whole.{too-long, within}
 
 -- ---- accepting: an input that is too long, and one that is not
@@ -31,6 +31,11 @@ accepted-within bs h = rw (within bs h)
 pub fault-none : (bs : List ℕ) → inputFault bs ≡ 0 → bundleFault bs ≡ 0
 unfolding inputFault
 fault-none bs e = first-right (unless (leb (length bs) mostInput) LENGTH) (bundleFault bs) e
+
+-- a text with a piece for each place has as many as there are, or one for the refusal, whatever the fault is judged by
+pub count-by : (bs : List ℕ) (c : ℕ) → kept c 1 (acceptedBy c bs .heading .jobs) ≡ kept c 1 (bundleHeading bs .jobs)
+count-by bs zero = refl
+count-by bs (suc c) = refl
 
 -- ---- the pieces, by what accepting gave
 
