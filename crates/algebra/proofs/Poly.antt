@@ -54,7 +54,8 @@ module _ (R : CommRing) where
       step a b z s u v h = rw h (simp ring)
 
   pub eval-scale : (c : E) (p : List E) (z : E) → eval R (scale c p) z ≡ c ⊗ eval R p z
-  eval-scale c p z = elim p [ [] ↦ sym (mul-zero R c) | a ∷ (p' → ih) ↦ rw ih (simp ring) ]
+  eval-scale c [] z = sym (mul-zero R c)
+  eval-scale c (a ∷ p) z = rw (eval-scale c p z) (simp ring)
 
   pub eval-pmul : (p q : List E) (z : E) → eval R (pmul p q) z ≡ eval R p z ⊗ eval R q z
   eval-pmul [] q z = sym (zero-mul R _)

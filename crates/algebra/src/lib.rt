@@ -1,1 +1,2 @@
 // Mathematics only: specs/ and proofs/.
+#![tactic(auto)]
