@@ -56,6 +56,7 @@ below-only (suc m) i h =
 module _ {A : Type 0} where
   pub each_all : (xs : List A) (ls : List (List A)) {x : A} {l : List A} → Memᴰ x xs → Memᴰ l ls → Memᴰ (x ∷ l) (each xs ls)
   unfolding each
+  each_all [] ls h m = absurd (Memᴰ.not-nil h)
   each_all (y ∷ xs) ls {x} {l} (Memᴰ.head e) m =
       Memᴰ.append_left (each xs ls) (Memᴰ.cast (ap (λ z. z ∷ l) e) (Memᴰ.map (λ t. y ∷ t) m))
   each_all (y ∷ xs) ls (Memᴰ.tail h) m = Memᴰ.append_right (map (λ t. y ∷ t) ls) (each_all xs ls h m)
