@@ -1,4 +1,6 @@
 // Words of k bits, 1 to 64, held in a u64; the parameters of an archive; the numbers of refusals.
+#![tactic(auto)]
+
 ghost use Rattle.std.specs.Prelude.{◌≡◌, ◌+◌, ◌*◌, ◌%◌, ◌^◌, ◌<◌, ◌≤◌, [], ◌∷◌, length};
 ghost use Rattle.words.specs.Word.{add_w, sub_w, mul_w, in_width, all_in_width};
 ghost use Rattle.words.specs.Params.{params_ok};
