@@ -1,4 +1,6 @@
 // Opening the job at a place of a bundle, or the sum of a run of them. Each call first reads the whole bundle.
+#![tactic(auto)]
+
 ghost use Rattle.std.specs.Prelude.{◌≡◌, true, ◌++◌, ◌-◌, ◌≤◌, ◌<◌, length, drop, replicate};
 ghost use Rattle.words.specs.Word.{in_width};
 ghost use Rattle.galois.specs.Element.{held};

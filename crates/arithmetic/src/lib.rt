@@ -1,4 +1,6 @@
 // The calls on lent elements: sum, product and inverse.
+#![tactic(auto)]
+
 ghost use Rattle.std.specs.Prelude.{◌≡◌, ◌≤◌, length};
 ghost use Rattle.words.specs.Refusal.{kept};
 ghost use Rattle.galois.specs.Element.{sum, lower, product, inverse};

@@ -1,5 +1,7 @@
 // The calls of the archive for programs in C and Rust, as include/yikescanvas.h declares them. Each gives the number of paper 01, 0 where it
 // does not decline, and asks nothing of its caller but slices that are there: a call that declines leaves every output as it was.
+#![tactic(auto)]
+
 ghost use Rattle.std.specs.Prelude.{◌≡◌, [], ◌∷◌, ◌++◌, ◌-◌, length};
 ghost use Rattle.words.specs.Faults.{signed_fault};
 ghost use Rattle.words.specs.Refusal.{kept};

@@ -1,4 +1,6 @@
 // Files and bundles: the first fault of lent bytes, in byte order.
+#![tactic(auto)]
+
 ghost use Rattle.std.specs.Prelude.{◌≡◌, ◌+◌, ◌≤◌, true, ◌||◌, length, eqb, ltb};
 ghost use Rattle.words.specs.Refusal.{first_of};
 ghost use Rattle.records.specs.Layout.{job_kind, known};
@@ -12,7 +14,7 @@ use words::Params;
 pub const MOST_JOBS: usize = 1000;
 
 // What accepting bytes gives: the first fault, or 0 with the bundle's number of files and first heading.
-#[derive(Drop)]
+#[derive(Clone, Copy)]
 pub struct Accepted {
     pub fault: u8,
     pub files: usize,

@@ -1,9 +1,11 @@
 // A share compared with a value: each an element in an array of six, of words as they stand.
+#![tactic(auto)]
+
 ghost use Rattle.std.specs.Prelude.{◌≡◌};
 ghost use Rattle.comparison.specs.Comparison.{gap, compared, position_of};
 
 // How they compare: the lowest bit position at which any of the words differs, or that none does.
-#[derive(Drop)]
+#[derive(Clone, Copy)]
 pub enum Comparison {
     Lowest(u8),
     None,

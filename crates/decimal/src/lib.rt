@@ -1,4 +1,6 @@
 // Numbers as text: each function writes its text into a lent buffer from `at` on and gives the position after it.
+#![tactic(auto)]
+
 ghost use Rattle.std.specs.Prelude.{◌≡◌, [], ◌∷◌, ◌+◌, ◌≤◌, length};
 ghost use Rattle.decimal.specs.Decimal.{written, decimal, sign, signed_text, hundredths_text};
 

@@ -2,6 +2,8 @@
 // differ from it. A search by rounds: one that ends it has the polynomial or none; any other names shares that differ from every codeword; they are
 // dropped, and the search goes on among the others with as much less to allow. Shares with a wide word differ from every polynomial, and are dropped
 // first. The caller's shares stay as they are: it is from copies that any are dropped, and where none has to be nothing is copied.
+#![tactic(auto)]
+
 ghost use Rattle.std.specs.Prelude.{◌≡◌, true, [], ◌∷◌, ℕ, suc, ◌+◌, ◌*◌, ◌≤◌, ◌<◌, length, take, get_or, replicate};
 ghost use Rattle.polynomial.specs.Rows.{Shaped, coefs};
 ghost use Rattle.comparison.specs.Comparison.{position_of};
@@ -66,7 +68,7 @@ fn copy_others(
 
 // What shares open to: the fault 5, 6 or 0, and the set of the wrong holders, bit i - 1 for holder i, which is empty where there is a fault.
 // Where there is none the polynomial is in lent rows.
-#[derive(Drop)]
+#[derive(Clone, Copy)]
 pub struct Opened {
     pub fault: u8,
     pub wrong: u64,

@@ -1,4 +1,6 @@
 // What a caller must know of a bundle, told in words: the bundle at large, a job's number, a file's part of the bytes, and a read by a cursor.
+#![tactic(auto)]
+
 ghost use Rattle.std.specs.Prelude.{◌≡◌, length};
 ghost use Rattle.words.specs.Refusal.{kept};
 ghost use Rattle.describe.specs.Describe.{about_of, describe_fault, number_of, number_fault, file_part_of, index_fault, file_part_fault};

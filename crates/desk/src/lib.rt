@@ -1,5 +1,7 @@
 // A desk that limits openings of one job by its place (paper 02, K5). Covered functions over numbers and slices decide everything; the two over a
 // lent record read it, make one call, and store what that returned.
+#![tactic(auto)]
+
 ghost use Rattle.std.specs.Prelude.{◌≡◌, [], ◌∷◌, ◌+◌, length};
 ghost use Rattle.words.specs.Refusal.{first, kept};
 ghost use Rattle.codewords.specs.Opening.{fault_of, secret_into, wrong_into, lowest_into};
@@ -12,21 +14,21 @@ ghost use Rattle.desk.specs.Lent.{lent_opening, record_into, lent_start_fault};
 pub const LARGEST_ALLOWANCE: u64 = 1000;
 
 // How many openings are allowed, and how many gave words since the start.
-#[derive(Drop)]
+#[derive(Clone, Copy)]
 pub struct Desk {
     pub allowance: u64,
     pub count: u64,
 }
 
 // The number of an opening, and the count after it.
-#[derive(Drop)]
+#[derive(Clone, Copy)]
 pub struct Stepped {
     pub fault: u8,
     pub count: u64,
 }
 
 // The number of a start, and the record after it.
-#[derive(Drop)]
+#[derive(Clone, Copy)]
 pub struct Started {
     pub fault: u8,
     pub allowance: u64,

@@ -1,1 +1,2 @@
 // The marked examples of paper 01: mathematics only.
+#![tactic(auto)]

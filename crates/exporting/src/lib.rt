@@ -1,4 +1,6 @@
 // What the program `jobtext` prints, a place at a time: the text of every job of a bundle that opens.
+#![tactic(auto)]
+
 ghost use Rattle.std.specs.Prelude.{◌≡◌, ◌≤◌, ◌<◌, length};
 ghost use Rattle.bundle.specs.Bundle.{bundle_fault, bundle_heading, files_of};
 ghost use Rattle.decimal.specs.Decimal.{written};

@@ -1,4 +1,6 @@
 // What stands in an accepted bundle, by holder and place: a job's body as a part of the lent bytes, its number and its words.
+#![tactic(auto)]
+
 ghost use Rattle.std.specs.Prelude.{◌≡◌, ◌+◌, ◌*◌, ◌≤◌, ◌<◌, ◌++◌, length, drop, replicate, ltb};
 ghost use Rattle.words.specs.Refusal.{unless, kept, HOLDER};
 ghost use Rattle.records.specs.Layout.{head_size, job_size, file_size, order_size};

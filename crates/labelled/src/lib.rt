@@ -1,4 +1,6 @@
 // The text of one lens job, five labelled lines, for the surfacing machines: written, measured and read.
+#![tactic(auto)]
+
 ghost use Rattle.std.specs.Prelude.{◌≡◌, ◌+◌, ◌≤◌, true, [], ◌∷◌, length, drop};
 ghost use Rattle.words.specs.Refusal.{kept};
 ghost use Rattle.words.specs.Word.{all_in_width};
@@ -11,7 +13,7 @@ ghost use Rattle.labelled.specs.Calls.{lens_fault, words_fault, size_fault, writ
 use words::{Params, Signed};
 
 // A lens job as its text has it: what its words mean, and its number.
-#[derive(Drop)]
+#[derive(Clone, Copy)]
 pub struct LensJob {
     pub number: u64,
     pub sphere: Signed,
@@ -21,7 +23,7 @@ pub struct LensJob {
 }
 
 // The number in a line of a text, and where the next line starts.
-#[derive(Drop)]
+#[derive(Clone, Copy)]
 struct Line {
     value: Signed,
     end: usize,

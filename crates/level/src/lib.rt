@@ -4,6 +4,8 @@
 // at the shares' points are kept, those of all shares at once, in bit slices, lane i for share i. The key equation of Welch and Berlekamp is
 // solved share by share: two pairs of polynomials (a, b) with a(x) + b(x) y zero at each share taken in. Minus is plus. Slices are lent, and
 // changed in place by one operation, `turn`, for the key equation and the interpolation alike.
+#![tactic(auto)]
+
 ghost use Rattle.std.specs.Prelude.{◌≡◌, map, suc, ◌+◌, ◌*◌, ◌≤◌, ◌<◌, leb, length, take};
 ghost use Rattle.algebra.specs.KeyEquation.{pivot};
 ghost use Rattle.galois.specs.Element.{held};
@@ -19,21 +21,21 @@ ghost use Rattle.level.specs.KeyEquation.{pairs_of, lead_of, zero_at, mix_lanes,
 ghost use Rattle.level.specs.Interpolation.{newton_of, trust_lanes, start_newton, gather_lanes};
 
 // What one level gives: the set of the holders whose shares differ from the codeword, or that there is none within the error bound.
-#[derive(Drop)]
+#[derive(Clone, Copy)]
 pub enum Level {
     Codeword(u64),
     Nothing,
 }
 
 // The degrees of the key equation's two pairs.
-#[derive(Drop)]
+#[derive(Clone, Copy)]
 struct Degrees {
     first: usize,
     second: usize,
 }
 
 // Which pair is multiplied.
-#[derive(Drop)]
+#[derive(Clone, Copy)]
 enum Lead {
     Neither,
     First,

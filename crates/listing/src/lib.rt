@@ -1,4 +1,6 @@
 // The listing of a bundle, a line at a time.
+#![tactic(auto)]
+
 ghost use Rattle.std.specs.Prelude.{◌≡◌, [], ◌∷◌, ◌+◌, ◌≤◌, ◌<◌, length};
 ghost use Rattle.words.specs.Refusal.{kept};
 ghost use Rattle.bundle.specs.Bundle.{bundle_fault, bundle_heading, files_of};
@@ -14,14 +16,14 @@ use records::Heading;
 pub const MOST_INPUT: usize = 65536;
 
 // What printing keeps of an input: what accepting it gave, and which piece of its text is next.
-#[derive(Drop)]
+#[derive(Clone, Copy)]
 pub struct Printer {
     pub accepted: Accepted,
     pub next: usize,
 }
 
 // The size of the piece that was written, and the printer of the next one.
-#[derive(Drop)]
+#[derive(Clone, Copy)]
 pub struct Piece {
     pub printer: Printer,
     pub size: usize,

@@ -1,4 +1,6 @@
 // A bundle mended: each wrong share replaced by its polynomial's value. And what the program `mend` prints, a place at a time.
+#![tactic(auto)]
+
 ghost use Rattle.std.specs.Prelude.{◌≡◌, ◌+◌, ◌≤◌, ◌<◌, eqb, length};
 ghost use Rattle.words.specs.Refusal.{kept};
 ghost use Rattle.galois.specs.Element.{point, held};

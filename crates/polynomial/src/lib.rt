@@ -1,4 +1,6 @@
 // Polynomials of elements in arrays of 64 rows, free term first; a row is an element in an array of six.
+#![tactic(auto)]
+
 ghost use Rattle.std.specs.Prelude.{◌≡◌, ◌+◌, ◌≤◌, take};
 ghost use Rattle.galois.specs.Element.{held, point};
 ghost use Rattle.polynomial.specs.Polynomial.{value};

@@ -1,1 +1,2 @@
 // Theorems over several calls, end to end: mathematics only.
+#![tactic(auto)]

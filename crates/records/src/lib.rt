@@ -1,4 +1,6 @@
 // Records of lent bytes: little-endian numbers, a cursor that moves on by one record, a heading, and the sizes of records.
+#![tactic(auto)]
+
 ghost use Rattle.std.specs.Prelude.{◌≡◌, ◌+◌, ◌≤◌, ◌<◌, true, length, get_or};
 ghost use Rattle.records.specs.Num.{le_at};
 ghost use Rattle.records.specs.Layout.{head_size, word_size, job_len, file_size, job_len_known, known};
@@ -36,13 +38,13 @@ pub const WORD_SIZE: usize = 8;
 pub const ORDER_SIZE: usize = 7;
 
 // A position in lent bytes.
-#[derive(Drop)]
+#[derive(Clone, Copy)]
 pub struct Cursor {
     pub at: usize,
 }
 
 // What a read at a cursor gives.
-#[derive(Drop)]
+#[derive(Clone, Copy)]
 pub enum Read {
     // A record: its body is len bytes from start, and next is past it.
     Record {
@@ -56,7 +58,7 @@ pub enum Read {
 }
 
 // What a heading says.
-#[derive(Drop)]
+#[derive(Clone, Copy)]
 pub struct Heading {
     pub params: Params,
     pub holder: usize,

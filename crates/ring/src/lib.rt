@@ -1,4 +1,6 @@
 // Elements of the Galois ring: d words of k bits, 2 to 6, in arrays of six with zeros after the d words.
+#![tactic(auto)]
+
 ghost use Rattle.std.specs.Prelude.{◌≡◌, cond, ◌∷◌, ◌++◌, ℕ, ◌+◌, ◌-◌, ◌^◌, ◌≤◌, ltb, length, take, drop, get_or};
 ghost use Rattle.galois.specs.Element.{zip, sum, difference, held, lower, down_w, plus_w, add_scaled, product, point, reduce, inverse};
 ghost use Rattle.galois.specs.Inversion.{fermat, newtons};

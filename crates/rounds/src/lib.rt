@@ -1,5 +1,7 @@
 // One round of the search for a codeword: the polynomial through the first t + 1 shares is the one if few enough of the others differ from it. If
 // not, one decoding over the field, at the lowest bit at which any share differs from it, names shares that differ from every codeword.
+#![tactic(auto)]
+
 ghost use Rattle.std.specs.Prelude.{◌≡◌, [], suc, ◌+◌, ◌*◌, ◌≤◌, take, replicate};
 ghost use Rattle.polynomial.specs.Rows.{Shaped, coefs, reduce_rows};
 ghost use Rattle.codewords.specs.Codeword.{error_set};
@@ -11,7 +13,7 @@ ghost use Rattle.rounds.specs.Residues.{Through, bits_of_all};
 use level::Level;
 
 // The shares that differ from a polynomial: the set of their holders, and every bit at which a word of one of them differs.
-#[derive(Drop)]
+#[derive(Clone, Copy)]
 struct Differing {
     set: u64,
     bits: u64,
@@ -19,7 +21,7 @@ struct Differing {
 
 // What one level gives: the set of the holders whose shares it finds wrong, and whether they are all that differ from the polynomial, which is
 // then the codeword; or that there is no codeword within the error bound.
-#[derive(Drop)]
+#[derive(Clone, Copy)]
 pub enum Found {
     Wrong(u64, bool),
     Nothing,

@@ -1,1 +1,2 @@
 // What t labs together can see: mathematics only.
+#![tactic(auto)]

@@ -1,5 +1,7 @@
 // Dealing a job to n holders, and opening it from lent shares. Shares are added, and multiplied by one element, by ring's calls add and
 // multiply.
+#![tactic(auto)]
+
 ghost use Rattle.std.specs.Prelude.{◌≡◌, true, ◌∷◌, ◌*◌, ◌≤◌, eqb, length, take};
 ghost use Rattle.words.specs.Refusal.{kept};
 ghost use Rattle.galois.specs.Element.{held, point};

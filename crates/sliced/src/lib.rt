@@ -1,5 +1,7 @@
 // Elements of the field of 2^d elements, the ring at k = 1, 64 at a time in bit slices: six words, whose lane i is the element with bit i of
 // word j for its word j. Lanes are read from the first d words.
+#![tactic(auto)]
+
 ghost use Rattle.std.specs.Prelude.{◌≡◌, true, ◌∷◌, ◌-◌, ◌*◌, ◌/◌, ◌%◌, ◌^◌, ◌≤◌, ◌<◌, length, get_or};
 ghost use Rattle.words.specs.Word.{all_in_width};
 ghost use Rattle.galois.specs.Element.{zip, held, lower, point};

@@ -1,4 +1,6 @@
 // The text of the listing and of the report of `mend`: each function writes its text into a lent buffer from `at` on and gives the position after it.
+#![tactic(auto)]
+
 ghost use Rattle.std.specs.Prelude.{◌≡◌, true, ◌+◌, ◌≤◌, length, take};
 ghost use Rattle.words.specs.Word.{all_in_width};
 ghost use Rattle.decimal.specs.Decimal.{written};

@@ -1,5 +1,7 @@
 // The total of a holder's file over a run of a bundle, into an output or added to an element that the caller lends, and the pass over the jobs of
 // a run that both are made by. It adds each word where the sum stands, as it is read, and takes the words together, bit by bit, to tell their width.
+#![tactic(auto)]
+
 ghost use Rattle.std.specs.Prelude.{◌≡◌, ◌++◌, ℕ, ◌+◌, ◌-◌, ◌*◌, ◌≤◌, ◌<◌, length, take, drop};
 ghost use Rattle.std.specs.Int.Bits.{bit_or};
 ghost use Rattle.words.specs.Word.{in_width, all_in_width};
@@ -22,7 +24,7 @@ fn load_word(bytes: &[u8], at: usize) -> u64
 }
 
 // Words taken together, bit by bit: those at even places of their jobs, and those at odd ones, the last word in both where it is alone.
-#[derive(Drop)]
+#[derive(Clone, Copy)]
 struct Seen {
     even: u64,
     odd: u64,
@@ -149,7 +151,7 @@ fn take_run(bytes: &[u8], h: Heading, f: usize, a: usize, b: usize, running: &mu
 }
 
 // The file of a holder, in an accepted bundle that has the places a to b - 1, by its heading; or the number of what is amiss.
-#[derive(Drop)]
+#[derive(Clone, Copy)]
 struct Located {
     fault: u8,
     heading: Heading,

@@ -32,7 +32,7 @@ pub const DESK_CLOSED: u8 = 10;
 pub const TEXT: u8 = 11;
 
 // The parameters of an archive (paper 01: a book): bits of a word, words of an element, holders, degree.
-#[derive(Drop)]
+#[derive(Clone, Copy)]
 pub struct Params {
     pub k: u64,
     pub d: usize,
@@ -41,7 +41,7 @@ pub struct Params {
 }
 
 // A word as sign and magnitude.
-#[derive(Drop)]
+#[derive(Clone, Copy)]
 pub struct Signed {
     pub negative: bool,
     pub magnitude: u64,

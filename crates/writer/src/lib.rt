@@ -1,4 +1,6 @@
 // Writes files, orders and bundles into lent buffers of exactly their lengths.
+#![tactic(auto)]
+
 ghost use Rattle.std.specs.Prelude.{◌≡◌, ◌+◌, ◌*◌, ◌≤◌, ◌<◌, [], ◌∷◌, ◌++◌, true, length, take, drop};
 ghost use Rattle.words.specs.Refusal.{kept};
 ghost use Rattle.records.specs.Num.{le_bytes};

@@ -1,0 +1,71 @@
+-- The loop of `load_place`: the rows passed are the words of the files' jobs, which are taken together. Assumes nothing.
+use borrow.Author.Rules.{rules}
+use native.Mathlib.Omega.{arith}
+use mathlib.Core.Path.{◌≡◌, sym, ap, ◌∙◌}
+use mathlib.Core.Bool.{Bool}
+use Prim.Native.Nat.{ℕ, ◌-◌, ◌≤◌, ◌<◌}
+use lib.ListN.{length, length-set}
+use Rattle.words.specs.Word.{in_width, all_in_width}
+use Rattle.galois.specs.Element.{Element, held}
+use Rattle.galois.proofs.Held.{held-length}
+use Rattle.records.specs.declared.Heading.{Heading}
+use Rattle.bundle.specs.Bundle.{params_of, files_of}
+use Rattle.bundle.specs.Contents.{words_of}
+use Rattle.bundle.proofs.Bundles.{bundle-ok, ranges-of, files-most}
+use Rattle.totals.specs.Values.{every}
+use Rattle.totals.proofs.Values.{filled, values-start, values-next, values-done}
+use Rattle.totals.proofs.Words.{words_length, padded, padded-width, none_seen, more-seen, together, six-width}
+use Rattle.archive.proofs.load_place.Goals as goal
+use Rattle.archive.proofs.load_place.Goals.{After-job_words-w, Start}
+
+few : (s : Start → s.args.files ≤ 63
+few s = omega (arith, s.requires.2, files-most s.args.bytes.now (bundle-ok s.args.bytes.now s.requires.0))
+
+-- the test of one file, and its row
+abbrev test : Start → ℕ → Bool
+test s g = all_in_width (params_of s.args.bytes.now).k (words_of s.args.bytes.now g s.args.place)
+
+abbrev row : Start → ℕ → Element
+row s g = held s.args.h.params.d (words_of s.args.bytes.now g s.args.place)
+
+pub loop-f-init : goal.loop-f-init
+loop-f-init c = (omega arith, c.requires.4, none_seen c.args.h.params.k (test (goal.at.loop-f-init c).Start), values-start (row (goal.at.loop-f-init c).Start) c.args.files c.args.shares.now)
+
+-- the row that it writes is there
+here : (c : After-job_words-w → c.before.before.loop.f < 63
+here c = omega (arith, few (goal.at.After-job_words-w c).Start, c.loop-f-test.true)
+
+pub offset_bounds-shares-f : goal.offset_bounds-shares-f
+offset_bounds-shares-f c = omega (arith, here c)
+
+pub bounds-shares-f : goal.bounds-shares-f
+bounds-shares-f c = here c
+
+pub loop-f-preserved : goal.loop-f-preserved
+loop-f-preserved c =
+    let a = c.args in
+    let bs = a.bytes.now in
+    let e = words_of bs c.loop-f.f a.place in
+    let w = c.job_words-w in
+    let hd = (ranges-of bs (bundle-ok bs c.requires.0) a.h c.requires.1).book.d-high in
+    let long : length e ≡ a.h.params.d = words_length bs c.loop-f.f a.place ∙ ap (λ (x : Heading). x.params.d) (sym c.requires.1) in
+    let held-words : w.result ≡ held a.h.params.d e = w.ensures ∙ padded a.h.params.d e long in
+    let six : length w.result ≡ 6 = ap length held-words ∙ held-length a.h.params.d e long hd in (
+      omega (arith, c.loop-f-test.true),
+      length-set c.loop-f.shares c.loop-f.f w.result ∙ c.loop-f.invariant.1,
+      more-seen a.h.params.k c.loop-f.seen (together w.result) (test (goal.at.loop-f-preserved c).Start) c.loop-f.f c.loop-f.invariant.2
+          (six-width a.h.params.k w.result six
+          ∙ ap (all_in_width a.h.params.k) w.ensures
+          ∙ padded-width a.h.params.k a.h.params.d e hd
+          ∙ ap (λ (x : Heading). all_in_width x.params.k e) c.requires.1),
+      values-next (row (goal.at.loop-f-preserved c).Start) a.files a.shares.now c.loop-f.shares c.loop-f.f w.result c.loop-f.invariant.3 c.loop-f-test.true
+          (omega (arith, few (goal.at.loop-f-preserved c).Start, c.requires.4)) held-words,
+    )
+
+pub returns : goal.returns
+returns c =
+    let e : c.loop-f.f ≡ c.args.files = omega arith in
+    let n : c.loop-f.f ≡ files_of c.args.bytes.now = e ∙ c.requires.2 in (
+      c.loop-f.invariant.2 ∙ ap (every (test (goal.at.returns c).Start)) n,
+      values-done (row (goal.at.returns c).Start) c.args.files c.args.shares.now c.loop-f.shares c.loop-f.f c.loop-f.invariant.3 e,
+    )

@@ -1,0 +1,83 @@
+-- The loop of `load_run`: the rows passed are the files' totals, and their words are taken together. Assumes nothing.
+use borrow.Author.Rules.{rules}
+use native.Mathlib.Omega.{arith}
+use mathlib.Core.Path.{◌≡◌, ap, ◌∙◌}
+use mathlib.Core.Bool.{Bool}
+use mathlib.Core.List.{List, []}
+use Prim.Native.Nat.{ℕ, ◌-◌, ◌≤◌, ◌<◌}
+use lib.ListN.{length, get_or, set, length-set}
+use lib.Seq.{get_or-set_same, set-set}
+use Rattle.words.specs.Word.{in_width}
+use Rattle.galois.specs.Element.{Element, zero_e, held}
+use Rattle.bundle.specs.Bundle.{files_of}
+use Rattle.bundle.proofs.Bundles.{bundle-ok, ranges-of, files-most}
+use Rattle.totals.specs.Total.{run_total, run_in_width, added_to}
+use Rattle.totals.specs.Values.{every}
+use Rattle.totals.proofs.Values.{filled, values-start, values-next, values-done}
+use Rattle.totals.proofs.Words.{none_seen, more-seen}
+use Rattle.totals.proofs.Runs.{run-held}
+use Rattle.archive.proofs.load_run.Goals as goal
+use Rattle.archive.proofs.load_run.Goals.{In-loop-f, Start}
+
+few : (s : Start → s.args.files ≤ 63
+few s = omega (arith, s.requires.2, files-most s.args.bytes.now (bundle-ok s.args.bytes.now s.requires.0))
+
+-- the test of one file, and its row
+abbrev run : Start → ℕ → Bool
+run s g = run_in_width s.args.bytes.now g s.args.a (s.args.b - s.args.a)
+
+abbrev row : Start → ℕ → Element
+row s g = held s.args.h.params.d (run_total s.args.bytes.now g s.args.a (s.args.b - s.args.a))
+
+pub loop-f-init : goal.loop-f-init
+loop-f-init c = (omega arith, c.requires.5, none_seen c.args.h.params.k (run (goal.at.loop-f-init c).Start), values-start (row (goal.at.loop-f-init c).Start) c.args.files c.args.shares.now)
+
+-- the row that is lent is there, and of zeros
+here : (c : In-loop-f → c.before.loop.f < 63
+here c = omega (arith, few (goal.at.In-loop-f c).Start, c.loop-f-test.true)
+
+pub offset_bounds-shares-f : goal.offset_bounds-shares-f
+offset_bounds-shares-f c = omega (arith, here c)
+
+pub bounds-shares-f : goal.bounds-shares-f
+bounds-shares-f c = here c
+
+pub offset_bounds-shares-f-in-loop-f : goal.offset_bounds-shares-f-in-loop-f
+offset_bounds-shares-f-in-loop-f c = omega (arith, here c)
+
+pub bounds-shares-f-in-loop-f : goal.bounds-shares-f-in-loop-f
+bounds-shares-f-in-loop-f c = here c
+
+zeros : (c : In-loop-f → let l = c.before.loop in get_or (set l.shares l.f (zero_e 6)) l.f [] ≡ zero_e 6
+zeros c = let l = c.loop-f in get_or-set_same l.shares l.f (zero_e 6) [] (omega (arith, l.invariant.1, here c))
+
+book : (s : Start → s.args.h.params.d ≤ 6
+book s = let bs = s.args.bytes.now in (ranges-of bs (bundle-ok bs s.requires.0) s.args.h s.requires.1).book.d-high
+
+pub add_run-seen-requires : goal.add_run-seen-requires
+add_run-seen-requires c = (c.requires.0, c.requires.1, omega (arith, c.requires.2, c.loop-f-test.true), c.requires.3, c.requires.4, rw (zeros (goal.at.add_run-seen-requires c).In-loop-f) (book (goal.at.add_run-seen-requires c).Start))
+
+pub loop-f-preserved : goal.loop-f-preserved
+loop-f-preserved c =
+    let l = c.loop-f in
+    let a = c.args in
+    let r = c.add_run-seen in
+    let v = r.new.1.1.1.1.1.0 in
+    let e : set (set l.shares l.f (zero_e 6)) l.f v ≡ set l.shares l.f v = set-set l.shares l.f (zero_e 6) v in
+    let q : v ≡ row (goal.at.loop-f-preserved c).Start l.f =
+    r.ensures.1
+    ∙ ap (λ (x : List ℕ). added_to a.h.params.k x (run_total a.bytes.now l.f a.a (a.b - a.a))) (zeros (goal.at.loop-f-preserved c).In-loop-f)
+    ∙ run-held a.bytes.now a.h c.requires.1 l.f a.a (a.b - a.a) (book (goal.at.loop-f-preserved c).Start) in (
+      omega arith,
+      ap length e ∙ length-set l.shares l.f v ∙ l.invariant.1,
+      more-seen a.h.params.k l.seen r.result (run (goal.at.loop-f-preserved c).Start) l.f l.invariant.2 r.ensures.0,
+      e ∙ values-next (row (goal.at.loop-f-preserved c).Start) a.files a.shares.now l.shares l.f v l.invariant.3 c.loop-f-test.true (omega (arith, few (goal.at.loop-f-preserved c).Start, c.requires.5)) q,
+    )
+
+pub returns : goal.returns
+returns c =
+    let e : c.loop-f.f ≡ c.args.files = omega arith in
+    let n : c.loop-f.f ≡ files_of c.args.bytes.now = e ∙ c.requires.2 in (
+      c.loop-f.invariant.2 ∙ ap (every (run (goal.at.returns c).Start)) n,
+      values-done (row (goal.at.returns c).Start) c.args.files c.args.shares.now c.loop-f.shares c.loop-f.f c.loop-f.invariant.3 e,
+    )

@@ -1,0 +1,97 @@
+-- `open_accepted`: what the place opens to, handed out. Assumes nothing.
+use borrow.Author.Rules.{rules}
+use mathlib.Core.Path.{◌≡◌, ap, ◌∙◌}
+use mathlib.Core.List.{List}
+use Prim.Native.Nat.{ℕ}
+use lib.ListN.{length}
+use Rattle.polynomial.specs.Rows.{Rows}
+use Rattle.codewords.specs.Codeword.{Share}
+use Rattle.codewords.specs.Opening.{Opening, wrong_into, lowest_into}
+use Rattle.codewords.proofs.Opening.{Handed, handed}
+use Rattle.rounds.proofs.Rows.{zero-shaped}
+use Rattle.records.specs.declared.Heading.{Heading}
+use Rattle.bundle.specs.Bundle.{bundle_heading}
+use Rattle.fetch.specs.Fetch.{place_fault}
+use Rattle.fetch.proofs.Fetch.{place_in}
+use Rattle.archive.specs.Archive.{shares_at, place_opening}
+use Rattle.archive.proofs.Ahead.{Passed, passed}
+use Rattle.archive.proofs.Loaded.{arrays, askable}
+use Rattle.archive.proofs.open_accepted.Goals as goal
+use Rattle.archive.proofs.open_accepted.Goals.{After-hand_out-arg-1, After-place_opening-opened, Start}
+
+abbrev bs : Start → List ℕ
+bs s = s.args.bytes.now
+
+-- the shares, and what they open to
+abbrev ss : Start → List Share
+ss s = shares_at (bs s) s.args.place
+
+abbrev O : Start → Opening
+O s = place_opening (bs s) s.args.place
+
+-- none of the refusals ahead of the opening applies
+abbrev fine : (s : Start) →
+    Passed (bs s) (length s.args.out.now) (length s.args.wrong.now) (length s.args.lowest.now)
+    (place_fault (bundle_heading (bs s)) s.args.place)
+fine s = passed _ _ _ _ _ s.requires.0
+
+pub load_holders-holders-requires : goal.load_holders-holders-requires
+load_holders-holders-requires c = ((fine (goal.at.load_holders-holders-requires c).Start).no_fault, c.requires.1, c.requires.2)
+
+pub place_opening-opened-requires : goal.place_opening-opened-requires
+place_opening-opened-requires c =
+    (
+      (fine (goal.at.place_opening-opened-requires c).Start).no_fault,
+      c.requires.1,
+      c.requires.2,
+      place_in c.args.h c.args.place (ap (λ (h : Heading). place_fault h c.args.place) c.requires.1 ∙ (fine (goal.at.place_opening-opened-requires c).Start).rest),
+      c.load_holders-holders.ensures,
+      search rules,
+      zero-shaped,
+    )
+
+abbrev rows : After-place_opening-opened → Rows
+rows a = a.place_opening-opened.new.rows
+
+abbrev shares : After-place_opening-opened → Rows
+shares a = a.place_opening-opened.new.shares
+
+hands : (a : After-place_opening-opened) → let p = a.args.h.params in
+    Handed p.k p.d p.t (ss (goal.at.After-place_opening-opened a).Start) a.place_opening-opened.result.fault (rows a) a.place_opening-opened.result.wrong (O (goal.at.After-place_opening-opened a).Start)
+hands a =
+    let p = a.args.h.params in
+    let e = a.place_opening-opened.ensures in
+    handed p.k p.d p.t (ss (goal.at.After-place_opening-opened a).Start) a.place_opening-opened.result.fault (rows a) a.place_opening-opened.result.wrong (O (goal.at.After-place_opening-opened a).Start) e.1.1.1 e.0
+    e.1.0
+
+pub hand_out-requires : goal.hand_out-requires
+hand_out-requires c =
+    let d = ap (λ (h : Heading). h.params.d) c.requires.1 in
+    let k = askable (bs (goal.at.hand_out-requires c).Start) c.args.h c.requires.1 c.args.files c.requires.2 (fine (goal.at.hand_out-requires c).Start).no_fault (shares (goal.at.hand_out-requires c).After-hand_out-arg-1) in (
+      k.0,
+      k.1,
+      rw (arrays (bs (goal.at.hand_out-requires c).Start) c.args.h c.requires.1 c.args.files c.requires.2 _ (shares (goal.at.hand_out-requires c).After-hand_out-arg-1) c.load_holders-holders.ensures)
+          k.2,
+      c.place_opening-opened.ensures.shaped,
+      rw d (fine (goal.at.hand_out-requires c).Start).output,
+      (fine (goal.at.hand_out-requires c).Start).wrong_output,
+      (fine (goal.at.hand_out-requires c).Start).lowest_output,
+      rw c.place_opening-opened.ensures.shares (hands (goal.at.hand_out-requires c).After-hand_out-arg-1).set,
+    )
+
+pub returns : goal.returns
+returns c =
+    let h = rw c.place_opening-opened.ensures.shares at c.hand_out.ensures in
+    let x = hands (goal.at.returns c).After-hand_out-arg-1 in
+    let into : (j : Heading → List ℕ) → j c.args.h ≡ j (bundle_heading (bs (goal.at.returns c).Start)) = λ j. ap j c.requires.1 in (
+      h.0 ∙ x.fault,
+      (
+        h.1.0 ∙ x.secret c.args.out.now,
+        (
+          h.1.1.0 ∙ x.wrong c.args.wrong.now
+              ∙ into (λ (y : Heading). wrong_into y.params.k y.params.d (ss (goal.at.returns c).Start) c.args.wrong.now (O (goal.at.returns c).Start)),
+          h.1.1.1 ∙ x.lowest c.args.lowest.now
+              ∙ into (λ (y : Heading). lowest_into y.params.k y.params.d (ss (goal.at.returns c).Start) c.args.lowest.now (O (goal.at.returns c).Start)),
+        ),
+      ),
+    )

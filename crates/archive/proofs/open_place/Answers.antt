@@ -1,0 +1,29 @@
+-- `open_place`: a refusal ahead of the opening, or what the place opens to. Assumes nothing.
+use borrow.Author.Rules.{rules}
+use mathlib.Core.Path.{refl, sym, ◌∙◌}
+use lib.ListN.{length}
+use Rattle.archive.proofs.Calls.{place-declines, place-opens}
+use Rattle.archive.proofs.open_place.Goals as goal
+
+pub returns-then-accepted-ne0 : goal.returns-then-accepted-ne0
+returns-then-accepted-ne0 c =
+    let s = c.args in
+    let r = c.accept_place-accepted in
+    rw (place-declines s.bytes.now s.place (length s.out.now) (length s.wrong.now) (length s.lowest.now) r.result.fault
+    r.ensures.0 c.if-accepted-ne0.true)
+    (refl, (refl, (refl, refl)))
+
+pub open_accepted-requires : goal.open_accepted-requires
+open_accepted-requires c =
+    let r = c.accept_place-accepted in
+    let z = c.if-accepted-ne0.false in
+    let e = r.ensures.1 z in
+    (sym r.ensures.0 ∙ z, e.0, e.1)
+
+pub returns : goal.returns
+returns c =
+    let s = c.args in
+    let r = c.accept_place-accepted in
+    rw (place-opens s.bytes.now s.place (length s.out.now) (length s.wrong.now) (length s.lowest.now) r.result.fault
+    r.ensures.0 c.if-accepted-ne0.false)
+    c.open_accepted.ensures

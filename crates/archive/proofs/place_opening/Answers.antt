@@ -1,0 +1,64 @@
+-- `place_opening`: the words of the place in each file, and what they open to. Assumes nothing.
+use borrow.Author.Rules.{rules}
+use mathlib.Core.Path.{◌≡◌, sym, ap, ap₂, ◌∙◌}
+use mathlib.Core.List.{List}
+use Prim.Native.Nat.{ℕ}
+use lib.ListN.{length, drop}
+use Rattle.galois.specs.Element.{Element}
+use Rattle.polynomial.specs.Rows.{Rows}
+use Rattle.codewords.specs.Opening.{wrong_of, answer_to}
+use Rattle.level.specs.Shares.{shares_of}
+use Rattle.bundle.specs.Bundle.{params_of, allowance_of}
+use Rattle.bundle.specs.Contents.{words_of}
+use Rattle.totals.proofs.Words.{words_length}
+use Rattle.archive.specs.Archive.{shares_at, place_opening}
+use Rattle.archive.proofs.Loaded.{arrays, loaded, loaded-sized, loaded-width, loaded-length, place-width}
+use Rattle.archive.proofs.place_opening.Goals as goal
+use Rattle.archive.proofs.place_opening.Goals.{After-load_place-arg-1, After-load_place-seen, Start}
+
+abbrev bs : Start → List ℕ
+bs s = s.args.bytes.now
+
+-- the words of each file's share
+abbrev words : Start → ℕ → Element
+words s f = words_of (bs s) f s.args.place
+
+long : (s : Start) (f : ℕ) → length (words s f) ≡ (params_of (bs s)).d
+long s f = words_length (bs s) f s.args.place
+
+-- the rows that the loader leaves
+abbrev rest : Start → Rows
+rest s = drop s.args.files s.args.shares.now
+
+abbrev rows : After-load_place-seen → Rows
+rows c = c.load_place-seen.new.shares
+
+-- the shares that it leaves
+stands : (l : After-load_place-seen) → shares_of l.args.h.params.d l.args.files l.args.holders.now (rows l) ≡ shares_at (bs (goal.at.After-load_place-seen l).Start) l.args.place
+stands l =
+    arrays (bs (goal.at.After-load_place-seen l).Start) l.args.h l.requires.1 l.args.files l.requires.2 l.args.holders.now (rows l) l.requires.4
+    ∙ loaded (bs (goal.at.After-load_place-seen l).Start) l.args.h l.requires.1 l.args.files l.requires.2 (words (goal.at.After-load_place-seen l).Start) (long (goal.at.After-load_place-seen l).Start) (rows l) (rest (goal.at.After-load_place-seen l).Start) l.load_place-seen.ensures.1
+
+pub decode_files-requires : goal.decode_files-requires
+decode_files-requires c =
+    let h = c.args.h in
+    let r = c.load-place in (
+      c.requires.0,
+      c.requires.1,
+      c.requires.2,
+      c.requires.4,
+      loaded-sized (bs (goal.at.decode_files-requires c).Start) h c.requires.1 c.args.files c.requires.2 (words (goal.at.decode_files-requires c).Start) (long (goal.at.decode_files-requires c).Start) (rows (goal.at.decode_files-requires c).After-load_place-arg-1) (rest (goal.at.decode_files-requires c).Start) r.ensures.1,
+      λ x. loaded-width (bs (goal.at.decode_files-requires c).Start) h c.requires.1 c.args.files c.requires.2 (words (goal.at.decode_files-requires c).Start) (long (goal.at.decode_files-requires c).Start) (rows (goal.at.decode_files-requires c).After-load_place-arg-1) (rest (goal.at.decode_files-requires c).Start) r.ensures.1
+          (λ f. place-width (bs (goal.at.decode_files-requires c).Start) c.args.place f (sym r.ensures.0 ∙ sym c.in_width.ensures ∙ x)),
+      loaded-length (bs (goal.at.decode_files-requires c).Start) h c.requires.1 c.args.files c.requires.2 _ (rows (goal.at.decode_files-requires c).After-load_place-arg-1) c.args.shares.now c.requires.0 c.requires.5 r.ensures.1,
+      c.requires.6,
+    )
+
+pub returns : goal.returns
+unfolding place_opening
+returns c =
+    let h = c.args.h in
+    let d = c.decode_files.ensures in
+    let same = loaded (bs (goal.at.returns c).Start) h c.requires.1 c.args.files c.requires.2 (words (goal.at.returns c).Start) (long (goal.at.returns c).Start) (rows (goal.at.returns c).After-load_place-arg-1) (rest (goal.at.returns c).Start) c.load-place.ensures.1 in
+    let o = ap (answer_to (params_of (bs (goal.at.returns c).Start)) (allowance_of (bs (goal.at.returns c).Start))) same in
+    (d.0 ∙ o, (d.1.0 ∙ ap₂ (wrong_of h.params.k h.params.d) same o, (stands (goal.at.returns c).After-load_place-arg-1, d.1.1)))

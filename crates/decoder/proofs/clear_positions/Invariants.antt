@@ -1,0 +1,16 @@
+-- `decoder::clear_positions` meets its contract. Assumes nothing.
+use borrow.Author.Rules.{rules}
+use native.Mathlib.Omega.{arith}
+use mathlib.Core.Path.{◌≡◌, refl, sym, ◌∙◌}
+use mathlib.Core.List.{List}
+use Prim.Native.Nat.{ℕ, ◌-◌, ◌≤◌, ◌<◌}
+use lib.ListN.{length, replicate, length-replicate, get_or-replicate, length-set}
+use lib.Seq.{paste, paste-zero}
+use Rattle.words.proofs.Fill.{fill-next, fill-all}
+use Rattle.decoder.proofs.clear_positions.Given as goal
+
+abbrev pub invariant-loop-i : goal.invariant-loop-i
+invariant-loop-i l = (l.i ≤ 64) × (length l.lowest ≡ 64) × (l.lowest ≡ paste l.initial.lowest 0 nones l.i)
+
+abbrev pub decreases-loop-i : goal.decreases-loop-i
+decreases-loop-i l = 64 - l.i

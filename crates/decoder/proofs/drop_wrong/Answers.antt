@@ -1,0 +1,58 @@
+-- `decoder::drop_wrong` meets its contract: after each turn the shares kept so far stand first, and those ahead as they were. Assumes nothing.
+use borrow.Author.Rules.{rules}
+use native.Mathlib.Omega.{arith}
+use mathlib.Core.Path.{◌≡◌, refl, ◌∙◌}
+use mathlib.Core.List.{[], ◌++◌}
+use Prim.Native.Nat.{ℕ, ◌-◌, ◌≤◌, ◌<◌}
+use lib.ListN.{length, get_or, length-set}
+use Rattle.codewords.specs.Residue.{without}
+use Rattle.level.specs.Shares.{shares_from, shares_of}
+use Rattle.decoder.proofs.Dropped.{drop-start, holder-range, drop-same, drop-turn, drop-end}
+use Rattle.decoder.proofs.drop_wrong.Goals as goal
+use Rattle.decoder.proofs.drop_wrong.Goals.{At-loop-i, In-loop-i}
+
+pub loop-i-init : goal.loop-i-init
+loop-i-init c =
+    let a = c.args in
+    (omega arith, omega arith, c.requires.1, c.requires.2, λ d. refl, λ d. drop-start d a.w a.hs.now a.ys.now a.m)
+
+-- a holder's bit is one of a word's
+range : (l : At-loop-i → l.loop.i < l.before.args.m →
+    (1 ≤ get_or l.loop.hs l.loop.i 0) × (get_or l.loop.hs l.loop.i 0 ≤ 63)
+range l h =
+    let a = l.args in
+    holder-range 0 a.w a.hs.now a.ys.now a.m l.loop-i.hs l.loop-i.ys l.loop-i.i h (l.loop-i.invariant.4 0)
+    (l.requires.3 l.loop-i.i h)
+
+pub overflow_sub-j : goal.overflow_sub-j
+overflow_sub-j c = (range (goal.at.overflow_sub-j c).In-loop-i (omega arith)).0
+
+pub overflow_shr-j : goal.overflow_shr-j
+overflow_shr-j c = omega (arith, (range (goal.at.overflow_shr-j c).In-loop-i (omega arith)).1)
+
+pub loop-i-preserved : goal.loop-i-preserved
+loop-i-preserved c =
+    let a = c.args in
+    let hs = c.loop-i.hs in
+    let ys = c.loop-i.ys in
+    let i = c.loop-i.i in
+    let j = c.loop-i.j in
+    let h : i < a.m = omega arith in (
+      omega arith,
+      omega arith,
+      length-set hs j (get_or hs i 0) ∙ c.loop-i.invariant.2,
+      length-set ys j (get_or ys i []) ∙ c.loop-i.invariant.3,
+      λ d. drop-same d a.w a.hs.now a.ys.now a.m hs ys i h (c.loop-i.invariant.4 d) j c.loop-i.invariant.0,
+      λ d. drop-turn d a.w a.hs.now a.ys.now a.m hs ys i h (c.loop-i.invariant.4 d) j c.loop-i.invariant.0 (omega arith) (omega arith)
+          (without a.w (shares_of d a.m a.hs.now a.ys.now)) (c.loop-i.invariant.5 d),
+    )
+
+pub returns : goal.returns
+returns c =
+    let a = c.args in (
+      λ d. drop-end d a.w a.hs.now a.ys.now c.loop-i.i a.m (omega arith) (shares_of d c.loop-i.j c.loop-i.hs c.loop-i.ys)
+          (without a.w (shares_of d a.m a.hs.now a.ys.now)) (c.loop-i.invariant.5 d),
+      omega arith,
+      c.loop-i.invariant.2,
+      c.loop-i.invariant.3,
+    )

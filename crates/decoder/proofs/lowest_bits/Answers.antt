@@ -1,0 +1,105 @@
+-- `decoder::lowest_bits` meets its contract: after each turn it has the positions of the shares passed. Assumes nothing.
+use borrow.Author.Rules.{rules}
+use native.Mathlib.Omega.{arith}
+use mathlib.Core.Path.{◌≡◌, refl, sym, ◌∙◌, ap}
+use mathlib.Core.List.{List}
+use Prim.Native.Nat.{ℕ, suc, ◌-◌, ◌≤◌, ◌<◌}
+use lib.ListN.{length, get_or, length-replicate, length-set}
+use Rattle.words.proofs.InRange.{InRange, ok-range}
+use Rattle.polynomial.specs.Rows.{coefs}
+use Rattle.codewords.specs.Codeword.{Share, Polynomial, positions}
+use Rattle.codewords.specs.WellFormed.{Holders}
+use Rattle.level.specs.Shares.{shares_from, shares_of}
+use Rattle.level.proofs.Shares.{from_end}
+use Rattle.decoder.proofs.Positions.{ordered-holders, low-degree, positions-start, nobody, holder_in, put_in, left_out}
+use Rattle.decoder.proofs.lowest_bits.Goals as goal
+use Rattle.decoder.proofs.lowest_bits.Goals.{At-loop-i, In-loop-i, Start}
+
+-- the polynomial and the shares
+abbrev poly : Start → Polynomial
+poly s = let a = s.args in coefs a.p.d (suc a.p.t) a.rows.now
+
+abbrev shares : Start → List Share
+shares s = let a = s.args in shares_of a.p.d a.m a.holders.now a.shares.now
+
+range : (s : Start → InRange s.args.p
+range s = ok-range s.args.p s.requires.0
+
+holders : (s : Start → Holders s.args.p.d (shares s)
+holders s = ordered-holders s.args.p (range s) (shares s) s.requires.2
+
+-- at the head of the loop
+abbrev Head : Type 0
+Head = tie.At-loop invariant-loop decreases-loop
+
+abbrev S : Head → Start
+S l = l.before.before.before.before.before.before.before
+
+named : (l : Head) → 0 < l.loop.i →
+    (1 ≤ get_or (S l).args.holders.now (l.loop.i - 1) 0) × (get_or (S l).args.holders.now (l.loop.i - 1) 0 ≤ 63)
+named l h =
+    let s = S l in
+    let a = s.args in
+    holder_in a.p.d (range s).d-high a.p.k (poly s) a.m a.holders.now a.shares.now (holders s) a.wrong s.pre.5 l.loop.i h
+    l.loop.inv.0
+
+pub returns-then-wrong-eq0 : goal.returns-then-wrong-eq0
+returns-then-wrong-eq0 c =
+    let a = c.args in
+    c.clear_positions.ensures
+    ∙ nobody a.p.d (range (goal.at.returns-then-wrong-eq0 c).Start).d-high a.p.k (poly (goal.at.returns-then-wrong-eq0 c).Start) a.m a.holders.now a.shares.now (holders (goal.at.returns-then-wrong-eq0 c).Start) a.wrong c.requires.5 c.if-wrong-eq0.true
+
+pub loop-i-init : goal.loop-i-init
+loop-i-init c =
+    let e = c.clear_positions.ensures in
+    let a = c.args in (
+      omega arith,
+      ap length e ∙ length-replicate {A = ℕ} 64 255,
+      e ∙ positions-start a.p.d (range (goal.at.loop-i-init c).Start).d-high a.p.k (poly (goal.at.loop-i-init c).Start) a.m a.holders.now a.shares.now (holders (goal.at.loop-i-init c).Start) a.wrong c.requires.5,
+    )
+
+pub overflow_sub-x : goal.overflow_sub-x
+overflow_sub-x c = (named (goal.at.overflow_sub-x c).In-loop-i (omega arith)).0
+
+pub overflow_shr-wrong : goal.overflow_shr-wrong
+overflow_shr-wrong c = omega (arith, named (goal.at.overflow_shr-wrong c).In-loop-i (omega arith))
+
+pub position_of-requires : goal.position_of-requires
+position_of-requires c =
+    let s = S (goal.at.position_of-requires c).In-loop-i in
+    let r = range s in
+    ((r.k-low, r.k-high), (r.d-low, r.d-high), low-degree s.args.p r, s.pre.3)
+
+pub overflow_sub-lowest : goal.overflow_sub-lowest
+overflow_sub-lowest c = (named (goal.at.overflow_sub-lowest c).In-loop-i (omega arith)).0
+
+pub bounds-lowest-x : goal.bounds-lowest-x
+bounds-lowest-x c = omega (arith, named (goal.at.bounds-lowest-x c).In-loop-i (omega arith), c.loop-i.invariant.1)
+
+pub loop-i-preserved-then-wrong-x-eq1 : goal.loop-i-preserved-then-wrong-x-eq1
+loop-i-preserved-then-wrong-x-eq1 c =
+    let s = S (goal.at.loop-i-preserved-then-wrong-x-eq1 c).In-loop-i in
+    let a = s.args in (
+      omega (arith, c.loop-i.invariant.0),
+      length-set c.loop-i.lowest _ _ ∙ c.loop-i.invariant.1,
+      put_in a.p.d (range s).d-high a.p.k (poly s) a.m a.holders.now a.shares.now (holders s) a.wrong s.pre.5 c.loop-i.i
+          (omega arith) c.loop-i.invariant.0 c.loop-i.lowest c.loop-i.invariant.2 c.position_of.result c.position_of.ensures,
+    )
+
+pub loop-i-preserved : goal.loop-i-preserved
+loop-i-preserved c =
+    let s = S (goal.at.loop-i-preserved c).In-loop-i in
+    let a = s.args in (
+      omega (arith, c.loop-i.invariant.0),
+      c.loop-i.invariant.1,
+      c.loop-i.invariant.2
+          ∙ left_out a.p.d (range s).d-high a.p.k (poly s) a.m a.holders.now a.shares.now (holders s) a.wrong s.pre.5 c.loop-i.i
+          (omega arith) c.loop-i.invariant.0 c.if-wrong-x-eq1.false,
+    )
+
+pub returns : goal.returns
+returns c =
+    let s = S (goal.at.returns c).At-loop-i in
+    let a = s.args in
+    let e : c.loop-i.i ≡ 0 = omega arith in
+    c.loop-i.invariant.2 ∙ ap (positions a.p.k a.p.d (poly s)) (from_end a.p.d a.holders.now a.shares.now c.loop-i.i a.m e)

@@ -1,0 +1,79 @@
+-- `decoder::wide_by` meets its contract: after each turn it has the holders of the wide shares passed. Assumes nothing.
+use borrow.Author.Rules.{rules}
+use native.Mathlib.Omega.{arith}
+use borrow.Author.Tests.{not-true, not-false}
+use mathlib.Core.Path.{◌≡◌, sym, ◌∙◌, ap}
+use mathlib.Core.Bool.{true, false, not}
+use mathlib.Core.List.{[]}
+use Prim.Native.Nat.{◌-◌, ◌≤◌, ◌<◌}
+use lib.ListN.{get_or, take}
+use Rattle.words.specs.Word.{in_width, all_in_width}
+use Rattle.galois.specs.Element.{Element, held}
+use Rattle.codewords.specs.Codeword.{wide}
+use Rattle.codewords.proofs.Without.{set_of}
+use Rattle.codewords.proofs.Wide.{wide-tally}
+use Rattle.level.specs.Shares.{shares_from, shares_of}
+use Rattle.level.proofs.Shares.{from_end, sized-at}
+use Rattle.rounds.proofs.Collected.{set-start, holder-low, holder-high, set_same, set_more}
+use Rattle.rounds.proofs.Lowest.{six_bits, width-six}
+use Rattle.decoder.proofs.wide_by.Goals as goal
+use Rattle.decoder.proofs.wide_by.Goals.{At-loop-i, In-loop-i}
+
+pub loop-i-init : goal.loop-i-init
+loop-i-init c = let a = c.args in (omega arith, set-start a.d c.requires.0 (wide a.k) a.m a.hs.now a.ys.now c.requires.2)
+
+-- the row that is looked at, by its words together
+row-width : (l : At-loop-i → 0 < l.loop.i →
+    (let a = l.before.args in let y = get_or a.ys.now (l.loop.i - 1) [] in
+    in_width a.k (six_bits (held a.d y)) ≡ all_in_width a.k (take a.d y))
+row-width l h =
+    let a = l.args in
+    width-six a.k a.d (get_or a.ys.now (l.loop-i.i - 1) []) l.requires.0
+    (sized-at a.d a.hs.now a.ys.now a.m (l.loop-i.i - 1) l.requires.3 (omega (arith, l.loop-i.invariant.0)))
+
+pub overflow_sub-set : goal.overflow_sub-set
+overflow_sub-set c =
+    let a = c.args in
+    holder-low a.d c.requires.0 (wide a.k) a.m a.hs.now a.ys.now c.requires.2 c.loop-i.i (omega arith)
+    c.loop-i.invariant.0
+
+pub overflow_shl-set : goal.overflow_shl-set
+overflow_shl-set c =
+    let a = c.args in
+    omega (
+      arith,
+      holder-high a.d c.requires.0 (wide a.k) a.m a.hs.now a.ys.now c.requires.2 c.loop-i.i (omega arith)
+          c.loop-i.invariant.0,
+    )
+
+pub loop-i-preserved-then-not-in_width : goal.loop-i-preserved-then-not-in_width
+unfolding wide
+loop-i-preserved-then-not-in_width c =
+    let a = c.args in
+    let e : all_in_width a.k (take a.d (get_or a.ys.now (c.loop-i.i - 1) [])) ≡ false =
+    sym (row-width (goal.at.loop-i-preserved-then-not-in_width c).In-loop-i (omega arith)) ∙ ap (λ (u : Element). in_width a.k (six_bits u)) (sym c.keep-u.ensures) ∙ sym c.in_width.ensures
+    ∙ not-true _ c.if-not-in_width.true in (
+      omega (arith, c.loop-i.invariant.0),
+      set_more a.d c.requires.0 (wide a.k) a.m a.hs.now a.ys.now c.requires.2 c.loop-i.i (omega arith)
+          c.loop-i.invariant.0 (ap not e) c.loop-i.set c.loop-i.invariant.1,
+    )
+
+pub loop-i-preserved : goal.loop-i-preserved
+unfolding wide
+loop-i-preserved c =
+    let a = c.args in
+    let e : all_in_width a.k (take a.d (get_or a.ys.now (c.loop-i.i - 1) [])) ≡ true =
+    sym (row-width (goal.at.loop-i-preserved c).At-loop-i (omega arith)) ∙ ap (λ (u : Element). in_width a.k (six_bits u)) (sym c.keep-u.ensures) ∙ sym c.in_width.ensures
+    ∙ not-false _ c.if-not-in_width.false in (
+      omega (arith, c.loop-i.invariant.0),
+      c.loop-i.invariant.1
+          ∙ set_same a.d c.requires.0 (wide a.k) a.m a.hs.now a.ys.now c.requires.2 c.loop-i.i (omega arith)
+          c.loop-i.invariant.0 (ap not e),
+    )
+
+pub returns : goal.returns
+returns c =
+    let a = c.args in
+    c.loop-i.invariant.1
+    ∙ ap (set_of (wide a.k)) (from_end a.d a.hs.now a.ys.now c.loop-i.i a.m (omega arith))
+    ∙ sym (wide-tally a.k (shares_of a.d a.m a.hs.now a.ys.now))

@@ -1,0 +1,110 @@
+-- `put_job`: the five lines, one after another, which have room. Assumes nothing.
+use Rattle.std.proofs.Common.{◌≡◌, ℕ, ◌≤◌, false, List, ◌++◌, length, refl, arith, rules}
+use Rattle.words.specs.declared.Signed.{Signed}
+use Rattle.decimal.specs.Decimal.{ascii, sign, signed_text, hundredths_text}
+use Rattle.decimal.proofs.Written.{Part, wrote-line, part_room, part-more}
+use Rattle.labelled.specs.JobText.{line_with, lines_of}
+use Rattle.labelled.proofs.Lengths.{whole_length, fixed-length}
+use Rattle.labelled.proofs.put_job.Goals as goal
+use Rattle.labelled.proofs.put_job.Goals.{After-put_fixed, After-put_fixed-q, After-put_fixed-r, After-put_whole-p, After-put_whole-s, After-slice_known-1, After-slice_known-2-1, After-slice_known-3-1, After-slice_known-4-1, After-slice_known-5-1, Start}
+
+-- the five lines
+abbrev number : Start → Signed
+number s = record { negative = false; magnitude = s.args.job.number }
+
+abbrev job : Start → List ℕ
+job s = line_with (ascii "JOB=") (signed_text (number s))
+
+abbrev sphere : Start → List ℕ
+sphere s = line_with (ascii "SPH=") (hundredths_text s.args.job.sphere)
+
+abbrev cylinder : Start → List ℕ
+cylinder s = line_with (ascii "CYL=") (hundredths_text s.args.job.cylinder)
+
+abbrev axis : Start → List ℕ
+axis s = line_with (ascii "AX=") (signed_text s.args.job.axis)
+
+abbrev thickness : Start → List ℕ
+thickness s = line_with (ascii "CTHICK=") (hundredths_text s.args.job.thickness)
+
+job-short : (s : Start) → length (job s) ≤ 27
+job-short s = whole_length (ascii "JOB=") (number s) (omega arith)
+
+sphere-short : (s : Start) → length (sphere s) ≤ 30
+sphere-short s = fixed-length (ascii "SPH=") s.args.job.sphere (omega arith)
+
+cylinder-short : (s : Start) → length (cylinder s) ≤ 30
+cylinder-short s = fixed-length (ascii "CYL=") s.args.job.cylinder (omega arith)
+
+axis-short : (s : Start) → length (axis s) ≤ 26
+axis-short s = whole_length (ascii "AX=") s.args.job.axis (omega arith)
+
+thickness-short : (s : Start) → length (thickness s) ≤ 33
+thickness-short s = fixed-length (ascii "CTHICK=") s.args.job.thickness (omega arith)
+
+-- the text so far, of at most so many bytes
+abbrev Upto : Start → ℕ → List ℕ → List ℕ → ℕ → Type 0
+Upto s i text new end = Part s.args.out.now 0 i text new end
+
+part1 : (c : After-put_whole-p) → Upto (goal.at.After-put_whole-p c).Start 27 (job (goal.at.After-put_whole-p c).Start) c.put_whole-p.new.out c.put_whole-p.result
+part1 c = record { wrote = c.put_whole-p.ensures; kept = c.put_whole-p.auto.0; short = job-short (goal.at.After-put_whole-p c).Start }
+
+part2 : (c : After-put_fixed-q) → Upto (goal.at.After-put_fixed-q c).Start 57 (job (goal.at.After-put_fixed-q c).Start ++ sphere (goal.at.After-put_fixed-q c).Start) c.put_fixed-q.new.out c.put_fixed-q.result
+part2 c =
+    part-more (sphere (goal.at.After-put_fixed-q c).Start) 30 (sphere-short (goal.at.After-put_fixed-q c).Start) (omega (arith, c.requires))
+    (part1 (goal.at.After-put_fixed-q c).After-slice_known-2-1) c.put_fixed-q.ensures c.put_fixed-q.auto.0
+
+part3 : (c : After-put_fixed-r) → Upto (goal.at.After-put_fixed-r c).Start 87 (job (goal.at.After-put_fixed-r c).Start ++ sphere (goal.at.After-put_fixed-r c).Start ++ cylinder (goal.at.After-put_fixed-r c).Start) c.put_fixed-r.new.out c.put_fixed-r.result
+part3 c =
+    part-more (cylinder (goal.at.After-put_fixed-r c).Start) 30 (cylinder-short (goal.at.After-put_fixed-r c).Start) (omega (arith, c.requires))
+    (part2 (goal.at.After-put_fixed-r c).After-slice_known-3-1) c.put_fixed-r.ensures c.put_fixed-r.auto.0
+
+part4 : (c : After-put_whole-s) → Upto (goal.at.After-put_whole-s c).Start 113 (job (goal.at.After-put_whole-s c).Start ++ sphere (goal.at.After-put_whole-s c).Start ++ cylinder (goal.at.After-put_whole-s c).Start ++ axis (goal.at.After-put_whole-s c).Start) c.put_whole-s.new.out c.put_whole-s.result
+part4 c =
+    part-more (axis (goal.at.After-put_whole-s c).Start) 26 (axis-short (goal.at.After-put_whole-s c).Start) (omega (arith, c.requires))
+    (part3 (goal.at.After-put_whole-s c).After-slice_known-4-1) c.put_whole-s.ensures c.put_whole-s.auto.0
+
+part5 : (c : After-put_fixed) → Upto (goal.at.After-put_fixed c).Start 146 (job (goal.at.After-put_fixed c).Start ++ sphere (goal.at.After-put_fixed c).Start ++ cylinder (goal.at.After-put_fixed c).Start ++ axis (goal.at.After-put_fixed c).Start ++ thickness (goal.at.After-put_fixed c).Start) c.put_fixed.new.out c.put_fixed.result
+part5 c =
+    part-more (thickness (goal.at.After-put_fixed c).Start) 33 (thickness-short (goal.at.After-put_fixed c).Start) (omega (arith, c.requires))
+    (part4 (goal.at.After-put_fixed c).After-slice_known-5-1) c.put_fixed.ensures c.put_fixed.auto.0
+
+-- LOST slice-aggregate-put-whole
+slice-aggregate-put-whole c = search rules
+
+pub put_whole-p-requires : goal.put_whole-p-requires
+put_whole-p-requires c = omega (arith, c.requires, job-short (goal.at.put_whole-p-requires c).After-slice_known-1)
+
+-- LOST slice-aggregate-put-fixed
+slice-aggregate-put-fixed c = search rules
+
+pub put_fixed-q-requires : goal.put_fixed-q-requires
+put_fixed-q-requires c = part_room (sphere (goal.at.put_fixed-q-requires c).Start) 30 (sphere-short (goal.at.put_fixed-q-requires c).Start) (omega (arith, c.requires)) (part1 (goal.at.put_fixed-q-requires c).After-slice_known-2-1)
+
+-- LOST slice-aggregate-put-fixed-2
+slice-aggregate-put-fixed-2 c = search rules
+
+pub put_fixed-r-requires : goal.put_fixed-r-requires
+put_fixed-r-requires c = part_room (cylinder (goal.at.put_fixed-r-requires c).Start) 30 (cylinder-short (goal.at.put_fixed-r-requires c).Start) (omega (arith, c.requires)) (part2 (goal.at.put_fixed-r-requires c).After-slice_known-3-1)
+
+-- LOST slice-aggregate-put-whole-2
+slice-aggregate-put-whole-2 c = search rules
+
+pub put_whole-s-requires : goal.put_whole-s-requires
+put_whole-s-requires c = part_room (axis (goal.at.put_whole-s-requires c).Start) 26 (axis-short (goal.at.put_whole-s-requires c).Start) (omega (arith, c.requires)) (part3 (goal.at.put_whole-s-requires c).After-slice_known-4-1)
+
+-- LOST slice-aggregate-put-fixed-3
+slice-aggregate-put-fixed-3 c = search rules
+
+pub put_fixed-requires : goal.put_fixed-requires
+put_fixed-requires c = part_room (thickness (goal.at.put_fixed-requires c).Start) 33 (thickness-short (goal.at.put_fixed-requires c).Start) (omega (arith, c.requires)) (part4 (goal.at.put_fixed-requires c).After-slice_known-5-1)
+
+whole : (s : Start) → lines_of s.args.job ≡ job s ++ sphere s ++ cylinder s ++ axis s ++ thickness s
+unfolding lines_of signed_text sign
+whole s = refl
+
+pub returns : goal.returns
+returns c =
+    let p = part5 (goal.at.returns c).After-put_fixed in
+    wrote-line c.args.out.now _ (lines_of c.args.job) (job (goal.at.returns c).Start ++ sphere (goal.at.returns c).Start ++ cylinder (goal.at.returns c).Start ++ axis (goal.at.returns c).Start ++ thickness (goal.at.returns c).Start) _ (whole (goal.at.returns c).Start) p.wrote
+    (omega (arith, p.short))

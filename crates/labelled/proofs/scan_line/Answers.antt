@@ -1,0 +1,38 @@
+-- `scan_line`: at every turn the bytes that are left give what the line gives. Assumes nothing.
+use Rattle.std.proofs.Common.{◌≡◌, ◌-◌, ◌<◌, ◌≤◌, length, drop, sym, refl, ◌∙◌, add-one, arith, rules}
+use Rattle.labelled.specs.Reading.{number_from, nothing, after_line}
+use Rattle.labelled.proofs.Steps.{number-end, after-end, number-stop, after_stop, number_step, after-step}
+use Rattle.labelled.proofs.scan_line.Goals as goal
+
+pub loop-i-init : goal.loop-i-init
+loop-i-init c = (search rules, refl, refl)
+
+pub returns-then-c-eq10 : goal.returns-then-c-eq10
+returns-then-c-eq10 c =
+    let text = c.args.text.now in
+    let i = c.loop-i.i in
+    let h : i < length text = search rules in (
+      sym (number-stop text i h c.loop-i.value c.if-c-eq10.true) ∙ c.loop-i.invariant.1,
+      rw (add-one i) (sym (after_stop text i h c.if-c-eq10.true) ∙ c.loop-i.invariant.2),
+      omega (arith, h),
+    )
+
+pub loop-i-preserved : goal.loop-i-preserved
+loop-i-preserved c =
+    let text = c.args.text.now in
+    let i = c.loop-i.i in
+    let h : i < length text = search rules in (
+      omega (arith, h),
+      rw (c.go_on-value.ensures, add-one i) (sym (number_step text i h c.loop-i.value c.if-c-eq10.false) ∙ c.loop-i.invariant.1),
+      rw (add-one i) (sym (after-step text i h c.if-c-eq10.false) ∙ c.loop-i.invariant.2),
+    )
+
+pub returns : goal.returns
+returns c =
+    let text = c.args.text.now in
+    let i = c.loop-i.i in
+    let h : length text ≤ i = search rules in (
+      sym (number-end text i c.loop-i.value h) ∙ c.loop-i.invariant.1,
+      sym (after-end text i h) ∙ c.loop-i.invariant.2,
+      c.loop-i.invariant.0,
+    )

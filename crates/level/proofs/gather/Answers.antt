@@ -1,0 +1,29 @@
+-- `level::gather` meets its contract: after each turn the shares passed are looked at. Assumes nothing.
+use native.Mathlib.Omega.{arith}
+use borrow.Author.Rules.{rules}
+use mathlib.Core.Path.{◌≡◌, ap}
+use Prim.Native.Nat.{◌-◌, ◌≤◌}
+use Rattle.level.specs.Interpolation.{Newton, newton_of, gather_lanes}
+use Rattle.level.proofs.Turns.{gather-start, gather-turn, gather-end}
+use Rattle.level.proofs.gather.Goals as goal
+
+pub loop-i-init : goal.loop-i-init
+loop-i-init c =
+    let a = c.args in
+    (omega arith, gather-start a.d a.xs a.t a.trusted a.m _)
+
+pub trust-n-requires : goal.trust-n-requires
+trust-n-requires c = ((omega arith, omega arith), omega arith, omega (arith, c.loop-i.invariant.0))
+
+pub loop-i-preserved : goal.loop-i-preserved
+loop-i-preserved c =
+    let a = c.args in
+    let v = c.loop-i.invariant in
+    (omega arith, gather-turn a.d a.xs a.t a.trusted a.m _ c.loop-i.i (omega arith) v.0 v.1 c.trust-n.ensures)
+
+pub returns : goal.returns
+returns c =
+    let a = c.args in
+    let v = c.loop-i.invariant in
+    let e = gather-end a.d a.xs a.t a.trusted a.m a.gap.now c.loop-i.i c.spread-nodal.ensures (omega arith) v.1 in
+    (ap (λ (s : Newton). s.n) e, ap (λ (s : Newton). s.gap) e)

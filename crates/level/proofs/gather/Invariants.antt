@@ -1,0 +1,14 @@
+-- `level::gather` meets its contract: after each turn the shares passed are looked at. Assumes nothing.
+use native.Mathlib.Omega.{arith}
+use borrow.Author.Rules.{rules}
+use mathlib.Core.Path.{◌≡◌, ap}
+use Prim.Native.Nat.{◌-◌, ◌≤◌}
+use Rattle.level.specs.Interpolation.{Newton, newton_of, gather_lanes}
+use Rattle.level.proofs.Turns.{gather-start, gather-turn, gather-end}
+use Rattle.level.proofs.gather.Given as goal
+
+abbrev pub invariant-loop-i : goal.invariant-loop-i
+invariant-loop-i l =     (l.i ≤ l.m) × (newton_of l.n l.gap l.nodal ≡ gather_lanes l.d l.xs l.t l.trusted (newton_of l.initial.n l.initial.gap l.initial.nodal) l.m (l.m - l.i))
+
+abbrev pub decreases-loop-i : goal.decreases-loop-i
+decreases-loop-i l = l.i

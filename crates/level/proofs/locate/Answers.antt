@@ -1,0 +1,30 @@
+-- `level::locate` meets its contract: after each turn the pairs are those of the shares passed. Assumes nothing.
+use native.Mathlib.Omega.{arith}
+use borrow.Author.Rules.{rules}
+use mathlib.Core.Path.{◌∙◌, ap}
+use Rattle.sliced.specs.Lane.{support_of}
+use Rattle.level.specs.KeyEquation.{Pairs, pairs_of}
+use Rattle.level.proofs.Turns.{Ran, run-start, run-turn, run_end}
+use Rattle.level.proofs.locate.Goals as goal
+
+pub loop-i-init : goal.loop-i-init
+loop-i-init c =
+    let a = c.args in
+    run-start a.d a.xs a.t a.m _ (omega arith) (omega arith)
+
+pub step-g-requires : goal.step-g-requires
+step-g-requires c =
+    let r = c.loop-i.invariant in
+    ((omega arith, omega arith), omega (arith, r.0), omega (arith, r.1), omega (arith, r.2))
+
+pub loop-i-preserved : goal.loop-i-preserved
+loop-i-preserved c =
+    let a = c.args in
+    run-turn a.d a.xs a.t a.m _ c.loop-i.i (omega arith) c.loop-i.invariant c.step-g.ensures
+
+pub returns : goal.returns
+returns c =
+    let a = c.args in
+    c.support.ensures
+    ∙ ap (λ (p : Pairs). support_of a.d p.b1)
+    (run_end a.d a.xs a.t a.m a.ys c.loop-i.i c.spread-v0.ensures c.spread-b1.ensures (omega arith) c.loop-i.invariant)

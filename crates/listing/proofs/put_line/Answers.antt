@@ -1,0 +1,105 @@
+-- `put_line`: the line of a place that does not open, or of one that does, by the parts of its opening. Assumes nothing.
+use borrow.Author.Rules.{rules}
+use mathlib.Core.Path.{◌≡◌, sym, ap, ◌∙◌}
+use mathlib.Core.List.{List, []}
+use Prim.Native.Nat.{ℕ, suc, ◌≤◌}
+use native.Mathlib.Omega.{arith}
+use lib.ListN.{length, take, get_or, length-take}
+use Rattle.polynomial.specs.Rows.{Rows, coefs}
+use Rattle.codewords.specs.Codeword.{Polynomial, positions}
+use Rattle.codewords.proofs.Positions.{positions-length, positions-bytes}
+use Rattle.rounds.proofs.Rows.{zero-shaped}
+use Rattle.text.specs.Text.{open_line, declined_line, readings}
+use Rattle.decimal.proofs.Written.{wrote-line}
+use Rattle.text.proofs.Lines.{open-length, declined-length}
+use Rattle.bundle.proofs.Bundles.{bundle-ok, ranges-of}
+use Rattle.bundle.proofs.Headings.{Ranges}
+use Rattle.archive.specs.Archive.{shares_at}
+use Rattle.archive.proofs.Loaded.{arrays, askable}
+use Rattle.listing.specs.Listing.{line_of}
+use Rattle.listing.proofs.Lines.{declined-line, narrow, set_is, open-line}
+use Rattle.listing.proofs.put_line.Goals as goal
+use Rattle.listing.proofs.put_line.Goals.{After-lowest_bits, After-place_opening-opened, Start}
+
+abbrev bs : Start → List ℕ
+bs s = s.args.bytes.now
+
+abbrev number : After-place_opening-opened → ℕ
+number a = a.job_number-number.result
+
+abbrev shares : After-place_opening-opened → Rows
+shares a = a.place_opening-opened.new.shares
+
+abbrev rows : After-place_opening-opened → Rows
+rows a = a.place_opening-opened.new.rows
+
+abbrev poly : After-place_opening-opened → Polynomial
+poly a = let p = a.args.h.params in coefs p.d (suc p.t) (rows a)
+
+known : (s : Start) → Ranges s.args.h
+known s = ranges-of (bs s) (bundle-ok (bs s) s.requires.0) s.args.h s.requires.1
+
+pub place_opening-opened-requires : goal.place_opening-opened-requires
+place_opening-opened-requires c = (c.requires.0, c.requires.1, c.requires.2, c.requires.3, c.load_holders-holders.ensures, search rules, zero-shaped)
+
+pub returns-then-opened-ne0 : goal.returns-then-opened-ne0
+returns-then-opened-ne0 c =
+    let o = c.place_opening-opened in
+    let n = c.job_number-number in
+    wrote-line c.args.out.now _ (line_of (bs (goal.at.returns-then-opened-ne0 c).Start) c.args.place) (declined_line (number (goal.at.returns-then-opened-ne0 c).After-place_opening-opened) o.result.fault)
+    c.put_declined_line.result
+    (declined-line (bs (goal.at.returns-then-opened-ne0 c).Start) c.args.place c.args.h c.requires.1 (number (goal.at.returns-then-opened-ne0 c).After-place_opening-opened) n.ensures o.result.fault o.result.wrong (rows (goal.at.returns-then-opened-ne0 c).After-place_opening-opened)
+    o.ensures.0 o.ensures.1.0 c.if-opened-ne0.true)
+    c.put_declined_line.ensures (declined-length (number (goal.at.returns-then-opened-ne0 c).After-place_opening-opened) o.result.fault (omega arith) (omega arith))
+
+pub lowest_bits-requires : goal.lowest_bits-requires
+lowest_bits-requires c =
+    let h = c.args.h in
+    let o = c.place_opening-opened in
+    let k = askable (bs (goal.at.lowest_bits-requires c).Start) h c.requires.1 c.args.files c.requires.2 c.requires.0 (shares (goal.at.lowest_bits-requires c).After-place_opening-opened) in (
+      k.0,
+      k.1,
+      rw (arrays (bs (goal.at.lowest_bits-requires c).Start) h c.requires.1 c.args.files c.requires.2 _ (shares (goal.at.lowest_bits-requires c).After-place_opening-opened) c.load_holders-holders.ensures) k.2,
+      o.ensures.1.1.1,
+      search rules,
+      rw o.ensures.1.1.0
+          (set_is (bs (goal.at.lowest_bits-requires c).Start) c.args.place h c.requires.1 (number (goal.at.lowest_bits-requires c).After-place_opening-opened) c.job_number-number.ensures o.result.fault o.result.wrong (rows (goal.at.lowest_bits-requires c).After-place_opening-opened)
+          o.ensures.0 o.ensures.1.0 c.if-opened-ne0.false o.ensures.1.1.1),
+    )
+
+abbrev lowest : After-lowest_bits → List ℕ
+lowest f = f.lowest_bits.new.lowest
+
+found : (f : After-lowest_bits) →
+    let p = f.args.h.params in lowest f ≡ positions p.k p.d (poly (goal.at.After-lowest_bits f).After-place_opening-opened) (shares_at (bs (goal.at.After-lowest_bits f).Start) f.args.place)
+found f = rw f.place_opening-opened.ensures.shares at f.lowest_bits.ensures
+
+pub put_open_line-requires : goal.put_open_line-requires
+put_open_line-requires c =
+    let o = c.place_opening-opened in
+    let p = c.args.h.params in
+    let k = (known (goal.at.put_open_line-requires c).Start).book in (
+      (k.k-low, k.k-high),
+      (omega (arith, k.d-low), k.d-high),
+      narrow (bs (goal.at.put_open_line-requires c).Start) c.args.place c.args.h c.requires.1 (number (goal.at.put_open_line-requires c).After-place_opening-opened) c.job_number-number.ensures o.result.fault o.result.wrong (rows (goal.at.put_open_line-requires c).After-place_opening-opened)
+          o.ensures.0 o.ensures.1.0 c.if-opened-ne0.false o.ensures.1.1.1,
+      ap length (found (goal.at.put_open_line-requires c).After-lowest_bits) ∙ positions-length p.k p.d (poly (goal.at.put_open_line-requires c).After-place_opening-opened) (shares_at (bs (goal.at.put_open_line-requires c).Start) c.args.place),
+      c.requires.4,
+    )
+
+pub returns : goal.returns
+returns c =
+    let o = c.place_opening-opened in
+    let n = c.job_number-number in
+    let h = c.args.h in
+    let p = h.params in
+    let k = (known (goal.at.returns c).Start).book in
+    let row = get_or (rows (goal.at.returns c).After-place_opening-opened) 0 [] in
+    let m : length (take p.d row) ≤ 6 = rw (length-take p.d row) (omega (arith, k.d-high)) in
+    wrote-line c.args.out.now _ (line_of (bs (goal.at.returns c).Start) c.args.place) (open_line (number (goal.at.returns c).After-place_opening-opened) o.result.wrong (lowest (goal.at.returns c).After-lowest_bits) (readings p.k p.d row))
+    c.put_open_line.result
+    (open-line (bs (goal.at.returns c).Start) c.args.place h c.requires.1 (number (goal.at.returns c).After-place_opening-opened) n.ensures o.result.fault o.result.wrong (rows (goal.at.returns c).After-place_opening-opened)
+    o.ensures.0 o.ensures.1.0 c.if-opened-ne0.false o.ensures.1.1.1 (lowest (goal.at.returns c).After-lowest_bits) (found (goal.at.returns c).After-lowest_bits))
+    c.put_open_line.ensures
+    (open-length (number (goal.at.returns c).After-place_opening-opened) o.result.wrong (lowest (goal.at.returns c).After-lowest_bits) p.k (take p.d row) (omega arith)
+    (rw (found (goal.at.returns c).After-lowest_bits) (positions-bytes p.k p.d (poly (goal.at.returns c).After-place_opening-opened) (shares_at (bs (goal.at.returns c).Start) c.args.place))) k.k-high m)

@@ -1,0 +1,65 @@
+-- `mend`: the bundle's number, or 2 for the output's length, or the bundle copied and mended there. Assumes nothing.
+use borrow.Author.Rules.{rules}
+use borrow.Author.Tests.{eq-eqb, ne_eqb}
+use mathlib.Core.Path.{◌≡◌, sym, ap, ◌∙◌}
+use Prim.Native.Nat.{ℕ, ◌+◌}
+use native.Mathlib.Omega.{arith}
+use mathlib.Core.List.{List, ◌++◌, append-nil}
+use lib.Dec.{eqb}
+use lib.ListN.{length, take, drop, drop_of_length-le}
+use Rattle.words.specs.Faults.{length_fault}
+use Rattle.words.specs.Refusal.{kept, unless, LENGTH}
+use Rattle.words.proofs.Refusal.{first_some, first-none, unless-yes, unless-no, kept-none, kept-some}
+use Rattle.records.specs.Num.{Bytes}
+use Rattle.bundle.specs.Bundle.{bundle_fault}
+use Rattle.bundle.proofs.Bundles.{accept-fault, accept-none, accept-files, accept-heading}
+use Rattle.mending.specs.Mended.{mended, mend_fault}
+use Rattle.mending.proofs.Mended.{mended-start}
+use Rattle.mending.proofs.mend.Goals as goal
+use Rattle.mending.proofs.mend.Goals.{After-accept-accepted, After-struct_known-1, Else-accepted-ne0, Else-out-bytes}
+
+-- bytes written over others, as many
+copied : (bs out : List ℕ) → length out ≡ length bs → take 0 out ++ (bs ++ drop (0 + length bs) out) ≡ bs
+copied bs out e = ap (λ x. bs ++ x) (drop_of_length-le out {i = 0 + length bs} (omega (arith, e))) ∙ append-nil bs
+
+abbrev bs : After-accept-accepted → List ℕ
+bs c = c.args.bytes.now
+
+abbrev out : After-accept-accepted → List ℕ
+out c = c.args.out.now
+
+-- a call with a known fault that is no 0 leaves its output
+declined : (c : After-accept-accepted) (r : ℕ) → (r ≡ 0 → ⊥) → mend_fault (bs c) (length (out c)) ≡ r →
+    (r ≡ mend_fault (bs c) (length (out c))) × (out c ≡ kept (mend_fault (bs c) (length (out c))) (out c) (mended (bs c)))
+declined c r n e = (sym e, sym (kept-some _ (out c) _ (λ z. n (sym e ∙ z))))
+
+pub returns-then-accepted-ne0 : goal.returns-then-accepted-ne0
+returns-then-accepted-ne0 c =
+    let r = c.accept-accepted in
+    let e = accept-fault (bs (goal.at.returns-then-accepted-ne0 c).After-accept-accepted) r.result r.ensures in
+    declined (goal.at.returns-then-accepted-ne0 c).After-accept-accepted r.result.fault c.if-accepted-ne0.true (by-bundle (bs (goal.at.returns-then-accepted-ne0 c).After-accept-accepted) (length (out (goal.at.returns-then-accepted-ne0 c).After-accept-accepted)) (λ z. c.if-accepted-ne0.true (e ∙ z)) ∙ sym e)
+
+-- it is accepted
+fine : (c : Else-accepted-ne0) → bundle_fault (bs (goal.at.Else-accepted-ne0 c).After-accept-accepted) ≡ 0
+fine c = let r = c.accept-accepted in accept-none (bs (goal.at.Else-accepted-ne0 c).After-accept-accepted) r.result r.ensures c.if-accepted-ne0.false
+
+pub returns-then-out-bytes : goal.returns-then-out-bytes
+returns-then-out-bytes c =
+    declined (goal.at.returns-then-out-bytes c).After-accept-accepted LENGTH (λ z. omega arith)
+    (by_length (bs (goal.at.returns-then-out-bytes c).After-accept-accepted) (length (out (goal.at.returns-then-out-bytes c).After-accept-accepted)) (fine (goal.at.returns-then-out-bytes c).Else-accepted-ne0) ∙ unless-no _ LENGTH (ne_eqb _ _ c.if-out-bytes.true))
+
+pub mend_jobs-requires : goal.mend_jobs-requires
+mend_jobs-requires c =
+    let r = c.accept-accepted in
+    let b : Bytes (bs (goal.at.mend_jobs-requires c).After-struct_known-1) = λ i. (c.shared_slice_known-1.given i).fits in (
+      fine (goal.at.mend_jobs-requires c).Else-out-bytes,
+      accept-heading (bs (goal.at.mend_jobs-requires c).After-struct_known-1) r.result r.ensures c.if-accepted-ne0.false,
+      accept-files (bs (goal.at.mend_jobs-requires c).After-struct_known-1) r.result r.ensures c.if-accepted-ne0.false,
+      c.put_bytes.ensures ∙ copied (bs (goal.at.mend_jobs-requires c).After-struct_known-1) (out (goal.at.mend_jobs-requires c).After-struct_known-1) c.if-out-bytes.false ∙ sym (mended-start (bs (goal.at.mend_jobs-requires c).After-struct_known-1) (fine (goal.at.mend_jobs-requires c).Else-out-bytes) b),
+    )
+
+pub returns : goal.returns
+returns c =
+    let e : mend_fault (bs (goal.at.returns c).After-struct_known-1) (length (out (goal.at.returns c).After-struct_known-1)) ≡ 0 =
+    by_length (bs (goal.at.returns c).After-struct_known-1) (length (out (goal.at.returns c).After-struct_known-1)) (fine (goal.at.returns c).Else-out-bytes) ∙ unless-yes _ LENGTH (eq-eqb _ _ c.if-out-bytes.false) in
+    (sym e, c.mend_jobs.ensures ∙ sym (kept-none _ (out (goal.at.returns c).After-struct_known-1) _ e))

@@ -1,0 +1,30 @@
+-- The loop of `mend_jobs`: the places passed are mended. Assumes nothing.
+use borrow.Author.Rules.{rules}
+use mathlib.Core.Path.{◌≡◌, refl, ap, ◌∙◌}
+use Prim.Native.Nat.{ℕ, ◌-◌, ◌≤◌}
+use native.Mathlib.Omega.{arith}
+use lib.ListN.{length}
+use Rattle.records.specs.Num.{Bytes}
+use Rattle.records.specs.declared.Heading.{Heading}
+use Rattle.bundle.specs.Bundle.{bundle_heading}
+use Rattle.mending.specs.Progress.{mended_to}
+use Rattle.mending.proofs.Mended.{mended-done}
+use Rattle.mending.proofs.mend_jobs.Goals as goal
+
+pub loop-p-init : goal.loop-p-init
+loop-p-init c = (search rules, c.requires.3, refl)
+
+pub mend_place-requires : goal.mend_place-requires
+mend_place-requires c = (c.requires.0, c.requires.1, c.requires.2, c.loop-p-test.true, c.loop-p.invariant.1)
+
+pub loop-p-preserved : goal.loop-p-preserved
+loop-p-preserved c =
+    let m = c.mend_place in
+    (search rules, m.ensures.1.1, m.auto.1.1.1.1.0 ∙ c.loop-p.invariant.2)
+
+pub returns : goal.returns
+returns c =
+    let b : Bytes c.args.bytes.now = λ i. (c.shared_slice_known-1.given i).fits in
+    let j : c.args.h.jobs ≡ (bundle_heading c.args.bytes.now).jobs = ap (λ (h : Heading). h.jobs) c.requires.1 in
+    let e : c.loop-p.p ≡ (bundle_heading c.args.bytes.now).jobs = omega (arith, c.loop-p.invariant.0, c.loop-p-test.false, j) in
+    c.loop-p.invariant.1 ∙ ap (λ (p : ℕ). mended_to c.args.bytes.now p 0) e ∙ mended-done c.args.bytes.now c.requires.0 b

@@ -1,0 +1,27 @@
+-- `mend_place`: what the place opens to, and its job mended in each file. Assumes nothing.
+use borrow.Author.Rules.{rules}
+use mathlib.Core.List.{List}
+use Prim.Native.Nat.{ℕ}
+use Rattle.polynomial.specs.Rows.{Rows}
+use Rattle.codewords.proofs.Opening.{handed}
+use Rattle.rounds.proofs.Rows.{zero-shaped}
+use Rattle.archive.specs.Archive.{shares_at, place_opening}
+use Rattle.mending.proofs.mend_place.Goals as goal
+use Rattle.mending.proofs.mend_place.Goals.{After-place_opening-opened}
+
+abbrev bs : After-place_opening-opened → List ℕ
+bs c = c.args.bytes.now
+
+abbrev rows : After-place_opening-opened → Rows
+rows c = c.place_opening-opened.new.rows
+
+pub place_opening-opened-requires : goal.place_opening-opened-requires
+place_opening-opened-requires c = (c.requires.0, c.requires.1, c.requires.2, c.requires.3, c.load_holders-holders.ensures, search rules, zero-shaped)
+
+pub returns : goal.returns
+returns c =
+    let p = c.args.h.params in
+    let o = c.place_opening-opened in
+    let g = handed p.k p.d p.t (shares_at (bs (goal.at.returns c).After-place_opening-opened) c.args.place) o.result.fault (rows (goal.at.returns c).After-place_opening-opened) o.result.wrong
+    (place_opening (bs (goal.at.returns c).After-place_opening-opened) c.args.place) o.ensures.1.1.1 o.ensures.0 o.ensures.1.0 in
+    (g.fault, (o.ensures.1.0, c.mend_files.ensures))

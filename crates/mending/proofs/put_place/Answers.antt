@@ -1,0 +1,45 @@
+-- `put_place`: the line of a job that keeps its bytes, or those of its wrong holders, by what mending the place gave. Assumes nothing.
+use borrow.Author.Rules.{rules}
+use mathlib.Core.List.{List}
+use Prim.Native.Nat.{ℕ}
+use native.Mathlib.Omega.{arith}
+use Rattle.text.specs.Text.{holders, changed_lines, kept_line}
+use Rattle.decimal.proofs.Written.{wrote-line}
+use Rattle.text.proofs.Lines.{changes-length, kept-length}
+use Rattle.mending.specs.Report.{changes_at}
+use Rattle.mending.proofs.Changes.{changes-kept, changes-opened}
+use Rattle.mending.proofs.put_place.Goals as goal
+use Rattle.mending.proofs.put_place.Goals.{After-mend_place-opened}
+
+abbrev bs : After-mend_place-opened → List ℕ
+bs c = c.args.bytes.now
+
+abbrev place : After-mend_place-opened → ℕ
+place c = c.args.place
+
+abbrev number : After-mend_place-opened → ℕ
+number c = c.job_number-number.result
+
+pub returns-then-opened-ne0 : goal.returns-then-opened-ne0
+returns-then-opened-ne0 c =
+    let o = c.mend_place-opened in
+    let p = c.put_kept in
+    let t = o.result.fault in (
+      o.ensures.1.1,
+      wrote-line c.args.text.now _ (changes_at (bs (goal.at.returns-then-opened-ne0 c).After-mend_place-opened) (place (goal.at.returns-then-opened-ne0 c).After-mend_place-opened)) (kept_line (number (goal.at.returns-then-opened-ne0 c).After-mend_place-opened) t) p.result
+          (changes-kept (bs (goal.at.returns-then-opened-ne0 c).After-mend_place-opened) (place (goal.at.returns-then-opened-ne0 c).After-mend_place-opened) (number (goal.at.returns-then-opened-ne0 c).After-mend_place-opened) t c.job_number-number.ensures o.ensures.0
+          c.if-opened-ne0.true)
+          p.ensures (kept-length (number (goal.at.returns-then-opened-ne0 c).After-mend_place-opened) t (omega arith) (omega arith)),
+    )
+
+pub returns : goal.returns
+returns c =
+    let o = c.mend_place-opened in
+    let p = c.put_changes in
+    let w = o.result.wrong in (
+      o.ensures.1.1,
+      wrote-line c.args.text.now _ (changes_at (bs (goal.at.returns c).After-mend_place-opened) (place (goal.at.returns c).After-mend_place-opened)) (changed_lines (number (goal.at.returns c).After-mend_place-opened) (holders w)) p.result
+          (changes-opened (bs (goal.at.returns c).After-mend_place-opened) (place (goal.at.returns c).After-mend_place-opened) (number (goal.at.returns c).After-mend_place-opened) o.result.fault c.job_number-number.ensures o.ensures.0 c.args.h w
+          c.requires.1 o.ensures.1.0 c.if-opened-ne0.false)
+          p.ensures (changes-length (number (goal.at.returns c).After-mend_place-opened) w (omega arith)),
+    )

@@ -1,0 +1,45 @@
+-- `polynomial::root_by` meets its contract: a turn of the loop writes one row more, and keeps the row that was there for the next. Assumes nothing.
+use borrow.Author.Rules.{rules}
+use Rattle.polynomial.proofs.Shape.{shaped-length, shaped_row}
+use Rattle.words.proofs.Fill.{fill-ahead}
+use native.Mathlib.Omega.{arith}
+use mathlib.Core.Path.{◌≡◌, refl, ap, ◌∙◌}
+use mathlib.Core.List.{[], ◌∷◌}
+use Prim.Native.Nat.{◌-◌, ◌≤◌}
+use native.Mathlib.Numerals.{add-one}
+use lib.ListN.{length, get_or, replicate}
+use lib.Seq.{paste}
+use Rattle.galois.specs.Element.{point}
+use Rattle.polynomial.specs.Rows.{less_times, root_rows}
+use Rattle.polynomial.proofs.Change.{length-change, change-paste}
+use Rattle.polynomial.proofs.Turns.{root-turn}
+use Rattle.polynomial.proofs.root_by.Goals as goal
+
+pub loop-i-init : goal.loop-i-init
+loop-i-init c = (search rules, refl, refl, refl)
+
+pub loop-i-preserved : goal.loop-i-preserved
+loop-i-preserved c =
+    let d = c.args.d in
+    let n = c.args.len in
+    let x = point c.args.d c.args.x in
+    let p = c.args.p.now in
+    let i = c.loop-i.i in
+    let hp : length p ≡ 64 = shaped-length p c.requires.2 in
+    let hs : length (root_rows 64 d n x p) ≡ length p = length-change (less_times 64 d x) n (replicate 6 0 ∷ p) p in
+    let rp : length (get_or p i []) ≡ 6 = shaped_row p i c.requires.2 (omega arith) in
+    let ahead : get_or c.loop-i.p i [] ≡ get_or p i [] = fill-ahead p (root_rows 64 d n x p) c.loop-i.p i [] c.loop-i.invariant.3 (omega arith) in (
+      omega arith,
+      ap length ahead ∙ rp,
+      rw add-one ahead,
+      rw (c.keep.ensures, c.difference.ensures, c.product_by_point-v.ensures)
+          (root-turn 64 d (omega arith) (omega arith) n x p c.loop-i.p c.loop-i.below i
+          (omega arith) (omega arith) rp c.loop-i.invariant.1 c.loop-i.invariant.2 c.loop-i.invariant.3),
+    )
+
+pub returns : goal.returns
+returns c =
+    let p = c.args.p.now in
+    let e : c.loop-i.i ≡ c.args.len = omega arith in
+    rw e at c.loop-i.invariant.3
+    ∙ change-paste (less_times 64 c.args.d (point c.args.d c.args.x)) c.args.len (replicate 6 0 ∷ p) p

@@ -1,0 +1,44 @@
+-- `half_at`: the sum over four bytes is the number. Assumes nothing.
+use Prim.Native.Nat.{ℕ, ◌+◌, ◌<◌}
+use native.Mathlib.Omega.{arith}
+use lib.ListN.{get_or}
+use Rattle.records.proofs.Num.{le_at-four}
+use borrow.Author.Rules.{rules}
+use Rattle.records.proofs.half_at.Goals as goal
+use Rattle.records.proofs.half_at.Goals.{After-wide-2}
+
+-- the lowest byte, and byte i after it
+low : (c : After-wide-2) → get_or c.args.bytes.now c.args.at 0 < 256
+low c = (c.shared_slice_known-3-1.given c.args.at).fits
+
+byte : (c : After-wide-2) (i : ℕ) → get_or c.args.bytes.now (c.args.at + i) 0 < 256
+byte c i = (c.shared_slice_known-3-1.given (c.args.at + i)).fits
+
+pub overflow_mul-result : goal.overflow_mul-result
+overflow_mul-result c = omega (arith, byte c 1)
+
+pub overflow_add-result : goal.overflow_add-result
+overflow_add-result c = omega (arith, low c, byte c 1)
+
+pub overflow_mul-result-2 : goal.overflow_mul-result-2
+overflow_mul-result-2 c = omega (arith, byte (goal.at.overflow_mul-result-2 c).After-wide-2 2)
+
+pub overflow_add-result-2 : goal.overflow_add-result-2
+overflow_add-result-2 c = omega (arith, low (goal.at.overflow_add-result-2 c).After-wide-2, byte (goal.at.overflow_add-result-2 c).After-wide-2 1, byte (goal.at.overflow_add-result-2 c).After-wide-2 2)
+
+pub overflow_mul-result-3 : goal.overflow_mul-result-3
+overflow_mul-result-3 c = omega (arith, byte (goal.at.overflow_mul-result-3 c).After-wide-2 3)
+
+pub overflow_add-result-3 : goal.overflow_add-result-3
+overflow_add-result-3 c = omega (arith, low (goal.at.overflow_add-result-3 c).After-wide-2, byte (goal.at.overflow_add-result-3 c).After-wide-2 1, byte (goal.at.overflow_add-result-3 c).After-wide-2 2, byte (goal.at.overflow_add-result-3 c).After-wide-2 3)
+
+pub returns : goal.returns
+returns c =
+    omega (
+      arith,
+      c.wide-4.ensures,
+      c.wide-3.ensures,
+      c.wide-2.ensures,
+      c.wide.ensures,
+      le_at-four c.args.bytes.now c.args.at c.requires,
+    )

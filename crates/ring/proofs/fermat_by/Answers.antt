@@ -1,0 +1,47 @@
+-- `ring::fermat_by` meets its contract: a turn of the loop is a product and a square, of which the lowest bits are looked at. Assumes nothing.
+use borrow.Author.Rules.{rules}
+use native.Mathlib.Omega.{arith}
+use mathlib.Core.Path.{◌≡◌, sym, ap, ◌∙◌}
+use Prim.Native.Nat.{suc, ◌+◌, ◌-◌, ◌≤◌}
+use lib.ListN.{length, take}
+use lib.Seq.{length-take-le}
+use Rattle.galois.specs.Element.{product, lower, reduce, held}
+use Rattle.galois.specs.Inversion.{fermat}
+use Rattle.galois.proofs.Table.{length-lower}
+use Rattle.galois.proofs.Lists.{length-product}
+use Rattle.galois.proofs.Inverse.{fermat-start, fermat-turn}
+use Rattle.galois.proofs.Held.{held-take}
+use Rattle.ring.proofs.fermat_by.Goals as goal
+
+pub loop-i-init : goal.loop-i-init
+loop-i-init c =
+    let d = c.args.d in
+    let h₆ : length c.args.a ≡ 6 = omega (arith, c.well_formed) in (
+      search rules,
+      search rules,
+      ap (reduce 1) c.product64-y.ensures
+          ∙ fermat-start d (omega arith) (omega arith) (take d c.args.a) (length-take-le d c.args.a (omega arith)),
+    )
+
+pub loop-i-preserved : goal.loop-i-preserved
+loop-i-preserved c =
+    let d = c.args.d in
+    let a = take d c.args.a in
+    let i = c.loop-i.i in
+    let h₆ : length c.args.a ≡ 6 = omega (arith, c.well_formed) in
+    let ha : length a ≡ d = length-take-le d c.args.a (omega arith) in
+    let hl : length (lower d) ≡ d = length-lower d (omega arith) (omega arith) in
+    let p = product 64 (lower d) (take d c.loop-i.y) a in
+    let hp : length p ≡ d = length-product 64 (lower d) (take d c.loop-i.y) a (ha ∙ sym hl) ∙ hl in
+    let ez : take d c.product64-z.result ≡ p = ap (take d) c.product64-z.ensures ∙ held-take d p hp in
+    let en : i + 1 - 2 ≡ suc (i - 2) = omega arith in (
+      omega arith,
+      omega arith,
+      rw (c.product64-y-in-loop-i.ensures, en)
+          (fermat-turn d (omega arith) (omega arith) a c.loop-i.y ha (i - 2) c.loop-i.invariant.2 (take d c.product64-z.result) ez),
+    )
+
+pub returns : goal.returns
+returns c =
+    let e : c.loop-i.i ≡ c.args.d = omega arith in
+    c.loop-i.invariant.2 ∙ rw e

@@ -1,0 +1,42 @@
+-- `ring::inverse_of` meets its contract: the chain of squares modulo two, then as many steps as reach k bits, cut to k. Assumes nothing.
+use borrow.Author.Rules.{rules}
+use native.Mathlib.Omega.{arith}
+use mathlib.Core.Path.{◌≡◌, sym, ap, ◌∙◌}
+use Prim.Native.Nat.{◌-◌}
+use lib.ListN.{length, take}
+use lib.Seq.{length-take-le}
+use Rattle.galois.specs.Element.{reduce, held}
+use Rattle.galois.specs.Inversion.{fermat, newtons}
+use Rattle.galois.proofs.Field.{length-fermat}
+use Rattle.galois.proofs.Inverse.{length-newtons, inverse-computed}
+use Rattle.galois.proofs.Held.{held-take, held_same}
+use Rattle.galois.proofs.Narrow.{reduce-held}
+use Rattle.ring.proofs.inverse_of.Goals as goal
+
+pub newton64-requires : goal.newton64-requires
+newton64-requires c =
+    let d = c.args.d in
+    let h₆ : length c.args.a ≡ 6 = omega (arith, c.well_formed) in
+    let a = take d c.args.a in
+    let y = fermat d a (d - 2) in
+    let hy : length y ≡ d = length-fermat d (omega arith) (omega arith) a (length-take-le d c.args.a (omega arith)) (d - 2) in
+    let e : c.reduce.result ≡ held d y = c.reduce.ensures ∙ c.fermat64.ensures in
+    (omega arith, (omega arith, omega arith), rw e (sym (held_same d (held d y) y (held-take d y hy) hy)))
+
+pub returns : goal.returns
+returns c =
+    let k = c.args.k in
+    let d = c.args.d in
+    let n = c.newton64.ensures.0 in
+    let h₆ : length c.args.a ≡ 6 = omega (arith, c.well_formed) in
+    let a = take d c.args.a in
+    let ha : length a ≡ d = length-take-le d c.args.a (omega arith) in
+    let y = fermat d a (d - 2) in
+    let hy : length y ≡ d = length-fermat d (omega arith) (omega arith) a ha (d - 2) in
+    let ey : take d c.reduce.result ≡ y =
+    ap (take d) (c.reduce.ensures ∙ c.fermat64.ensures) ∙ held-take d y hy in
+    let x = newtons 64 d a y n in
+    let hx : length x ≡ d = length-newtons d (omega arith) (omega arith) 64 a y ha hy n in
+    let ex : c.newton64.result ≡ held d x = c.newton64.ensures.1.1 ∙ rw ey in
+    c.reduce-2.ensures ∙ ap (reduce k) ex ∙ reduce-held k d x hx (omega arith)
+    ∙ ap (held d) (inverse-computed d (omega arith) (omega arith) k 64 (omega arith) (omega arith) a ha n c.newton64.ensures.1.0)

@@ -1,0 +1,16 @@
+-- `ring::load_by` meets its contract: the words copied so far. Assumes nothing.
+use borrow.Author.Rules.{rules}
+use native.Mathlib.Omega.{arith}
+use mathlib.Core.Path.{◌≡◌, refl, sym, ◌∙◌}
+use Prim.Native.Nat.{◌-◌, ◌≤◌}
+use native.Mathlib.Nat.{zero-add}
+use lib.ListN.{length, drop, length-drop}
+use lib.Seq.{paste, get_or-drop}
+use Rattle.words.proofs.Fill.{fill-next}
+use Rattle.ring.proofs.load_by.Given as goal
+
+abbrev pub invariant-loop-j : goal.invariant-loop-j
+invariant-loop-j l = (l.j ≤ l.d) × (l.r ≡ paste l.initial.r 0 (drop l.at l.s) l.j)
+
+abbrev pub decreases-loop-j : goal.decreases-loop-j
+decreases-loop-j l = l.d - l.j

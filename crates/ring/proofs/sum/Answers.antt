@@ -1,0 +1,22 @@
+-- `ring::sum` meets its contract: six sums are the sum word by word. Assumes nothing.
+use native.Mathlib.Omega.{arith}
+use mathlib.Core.Path.{◌≡◌, sym}
+use lib.ListN.{length}
+use Rattle.words.specs.Word.{add_w}
+use Rattle.galois.proofs.Zip.{zip-six}
+use borrow.Author.Rules.{rules}
+use Rattle.ring.proofs.sum.Goals as goal
+
+pub returns : goal.returns
+returns c =
+    let ha : length c.args.t2 ≡ 6 = omega (arith, c.well_formed) in
+    let hb : length c.args.t3 ≡ 6 = omega (arith, c.well_formed) in
+    rw (
+      c.add.ensures,
+      c.add-2.ensures,
+      c.add-3.ensures,
+      c.add-4.ensures,
+      c.add-5.ensures,
+      c.add-6.ensures,
+    )
+    (sym (zip-six (add_w c.args.k) c.args.t2 c.args.t3 ha hb))

@@ -1,0 +1,117 @@
+-- `rounds::decode_level` meets its contract: what is left of the shares is zero where they agree with the polynomial (`Left`), and the
+-- lowest bit of it is one that the field decoder may look at. Assumes nothing.
+use borrow.Author.Rules.{rules}
+use native.Mathlib.Omega.{arith}
+use mathlib.Core.Path.{◌≡◌, ◌∙◌, ap}
+use mathlib.Core.List.{List, map}
+use Prim.Native.Nat.{suc, ◌<◌}
+use native.Mathlib.Numerals.{add-one}
+use lib.Count.{ones, ones-le, count_trailing_zeros, trailing_le}
+use Rattle.polynomial.specs.Polynomial.{Polynomial}
+use Rattle.polynomial.specs.Rows.{Rows, coefs}
+use Rattle.polynomial.proofs.Shape.{shaped-length}
+use Rattle.codewords.specs.Codeword.{Share, errors, error_set}
+use Rattle.codewords.specs.Residue.{left}
+use Rattle.level.specs.Shares.{shares_of}
+use Rattle.rounds.specs.Found.{named, level_found, found_fault, round_fault}
+use Rattle.rounds.specs.Residues.{bits_of_all}
+use Rattle.rounds.specs.declared.Found.{Found}
+use Rattle.rounds.proofs.Left.{Left, rest-left}
+use Rattle.rounds.proofs.LevelFound.{ones-of, lowest-at, found-few, found-field, told}
+use Rattle.rounds.proofs.decode_level.Goals as goal
+use Rattle.rounds.proofs.decode_level.Goals.{After-compare-c, After-decide-got, After-residues, After-residues-arg-1, After-struct_known-1, Else-c-e, Start}
+
+abbrev poly : Start → Polynomial
+poly s = coefs s.args.d (suc s.args.t) s.args.p
+
+abbrev shares : Start → List Share
+shares s = shares_of s.args.d s.args.m s.args.hs.now s.args.ys.now
+
+pub residues-requires : goal.residues-requires
+residues-requires c =
+    let p = c.requires in
+    ((omega arith, omega arith), p.1, p.2, p.3, omega (arith, p.4), shaped-length c.args.rest.now p.8)
+
+-- once the rows of what is left of the shares are written
+abbrev rows : After-residues → Rows
+rows c = c.residues.new.rest
+
+left-of : (c : After-residues) →
+    (let a = c.args in
+    Left a.k a.d a.t a.m (poly (goal.at.After-residues c).Start) a.hs.now a.ys.now (rows c))
+left-of c =
+    let a = c.args in
+    let p = c.requires in
+    rest-left a.k a.d a.t a.m p.1.0 p.1.1 a.hs.now a.ys.now a.p a.rest.now (rows c)
+    (omega (arith, p.4)) p.3 p.5 p.6 p.7 p.8 p.9 c.residues.ensures
+
+pub compare-c-requires : goal.compare-c-requires
+compare-c-requires c =
+    let p = c.before.requires in
+    let o = left-of (goal.at.compare-c-requires c).After-residues-arg-1 in
+    (omega (arith, p.4), p.3, o.holders-six, o.shaped, rw (add-one c.before.args.t) o.first)
+
+set_is : (c : After-compare-c) → (c.compare-c.result.set ≡ error_set c.args.k c.args.d (poly (goal.at.After-compare-c c).Start) (shares (goal.at.After-compare-c c).Start))
+set_is c = c.compare-c.ensures.0 ∙ (left-of (goal.at.After-compare-c c).After-residues-arg-1).set
+
+bits_is : (c : After-compare-c) →
+    (c.compare-c.result.bits ≡ bits_of_all (map (left c.args.k c.args.d (poly (goal.at.After-compare-c c).Start)) (shares (goal.at.After-compare-c c).Start)))
+bits_is c = c.compare-c.ensures.1 ∙ (left-of (goal.at.After-compare-c c).After-residues-arg-1).bits
+
+count-is : (c : After-compare-c) → (ones c.compare-c.result.set ≡ errors c.args.k c.args.d (poly (goal.at.After-compare-c c).Start) (shares (goal.at.After-compare-c c).Start))
+count-is c = ap ones (set_is c) ∙ ones-of c.args.k c.args.d (poly (goal.at.After-compare-c c).Start) (shares (goal.at.After-compare-c c).Start) c.requires.5
+
+pub overflow_cast-c : goal.overflow_cast-c
+overflow_cast-c c = omega (arith, ones-le 64 c.compare-c.result.set (omega arith))
+
+pub returns-then-c-e : goal.returns-then-c-e
+returns-then-c-e c =
+    let a = c.args in
+    let o = left-of (goal.at.returns-then-c-e c).After-residues-arg-1 in (
+      told a.k a.d a.t a.e (poly (goal.at.returns-then-c-e c).Start) (shares (goal.at.returns-then-c-e c).Start) _
+          (found-few a.k a.d a.t a.e (poly (goal.at.returns-then-c-e c).Start) (shares (goal.at.returns-then-c-e c).Start) c.compare-c.result.set (set_is (goal.at.returns-then-c-e c).After-compare-c)
+          (rw (← count-is (goal.at.returns-then-c-e c).After-compare-c) c.if-c-e.true)),
+      o.shaped,
+    )
+
+pub overflow_cast-v : goal.overflow_cast-v
+overflow_cast-v c = omega (arith, trailing_le 64 c.compare-c.result.bits)
+
+far : (c : Else-c-e) → (c.args.e < errors c.args.k c.args.d (poly (goal.at.Else-c-e c).Start) (shares (goal.at.Else-c-e c).Start))
+far c = omega (arith, c.if-c-e.false, count-is (goal.at.Else-c-e c).After-compare-c)
+
+low_bit : (c : Else-c-e) → count_trailing_zeros 64 c.compare-c.result.bits < 64
+low_bit c =
+    let a = c.args in
+    let p = c.requires in
+    let l = lowest-at a.d p.1.0 p.1.1 a.k a.t (poly (goal.at.Else-c-e c).Start) (shares (goal.at.Else-c-e c).Start) p.0.1 p.7.0 p.6 (omega (arith, far c)) in
+    rw (bits_is (goal.at.Else-c-e c).After-compare-c) (omega (arith, l.room, p.0.1))
+
+pub decide-got-requires : goal.decide-got-requires
+decide-got-requires c =
+    let p = c.requires in
+    let o = left-of (goal.at.decide-got-requires c).After-residues-arg-1 in
+    (p.1, low_bit (goal.at.decide-got-requires c).After-struct_known-1, p.2, p.3, o.holders, o.sized, omega (arith, p.4))
+
+found : (c : After-decide-got) →
+    (named c.decide-got.result ≡ level_found c.args.k c.args.d c.args.t c.args.e (poly (goal.at.After-decide-got c).Start) (shares (goal.at.After-decide-got c).Start))
+found c =
+    let a = c.args in
+    found-field a.k a.d a.t a.e (poly (goal.at.After-decide-got c).Start) (shares (goal.at.After-decide-got c).Start) (far (goal.at.After-decide-got c).After-struct_known-1) (shares_of a.d a.m a.hs.now (rows (goal.at.After-decide-got c).After-residues-arg-1)) (left-of (goal.at.After-decide-got c).After-residues-arg-1).is
+    c.compare-c.result.bits (bits_is (goal.at.After-decide-got c).After-compare-c) c.decide-got.result c.decide-got.ensures.level
+
+answers : (c : After-decide-got) (r : Found) →
+    (let a = c.args in
+    r ≡ level_found a.k a.d a.t a.e (poly (goal.at.After-decide-got c).Start) (shares (goal.at.After-decide-got c).Start) →
+    (r ≡ level_found a.k a.d a.t a.e (poly (goal.at.After-decide-got c).Start) (shares (goal.at.After-decide-got c).Start)) × (found_fault r ≡ round_fault a.k a.d a.t a.e (poly (goal.at.After-decide-got c).Start) (shares (goal.at.After-decide-got c).Start)))
+answers c = told c.args.k c.args.d c.args.t c.args.e (poly (goal.at.After-decide-got c).Start) (shares (goal.at.After-decide-got c).Start)
+
+pub returns-in_default : goal.returns-in_default
+returns-in_default c =
+    let o = left-of (goal.at.returns-in_default c).After-residues-arg-1 in
+    (answers (goal.at.returns-in_default c).After-decide-got _ (rw c.in_default.is at (found (goal.at.returns-in_default c).After-decide-got)), o.shaped)
+
+pub returns : goal.returns
+returns c =
+    let o = left-of (goal.at.returns c).After-residues-arg-1 in
+    (answers (goal.at.returns c).After-decide-got _ (rw c.in-Codeword.is at (found (goal.at.returns c).After-decide-got)), o.shaped)

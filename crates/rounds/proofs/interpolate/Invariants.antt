@@ -1,0 +1,18 @@
+-- `rounds::interpolate` meets its contract: after each turn the rows go through the shares passed. Assumes nothing.
+use borrow.Author.Rules.{rules}
+use native.Mathlib.Omega.{arith}
+use mathlib.Core.Path.{refl}
+use Prim.Native.Nat.{suc, ◌+◌, ◌≤◌}
+use lib.ListN.{set}
+use Rattle.algebra.proofs.Shares.{all_map}
+use Rattle.polynomial.specs.Rows.{Shaped}
+use Rattle.level.specs.Shares.{shares_of}
+use Rattle.rounds.proofs.Rows.{one_row, shaped-set, clear-one}
+use Rattle.rounds.proofs.Interpolated.{Passed, interpolate-start, interpolate-turn, interpolate-end}
+use Rattle.rounds.proofs.interpolate.Given as goal
+
+abbrev pub invariant-loop-i : goal.invariant-loop-i
+invariant-loop-i l =     (l.i ≤ l.t + 1) × Shaped l.q × Shaped l.nodal × ((h : 1 ≤ l.k) (dl : 2 ≤ l.d) (dh : l.d ≤ 6) → Passed l.k l.d h dl dh l.t l.hs l.ys l.i l.q l.nodal)
+
+abbrev pub decreases-loop-i : goal.decreases-loop-i
+decreases-loop-i l = l.i

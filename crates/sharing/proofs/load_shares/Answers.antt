@@ -1,0 +1,50 @@
+use borrow.Author.Rules.{rules}
+use native.Mathlib.Omega.{arith}
+use mathlib.Core.Path.{◌≡◌, refl, sym, ap, ◌∙◌}
+use mathlib.Core.List.{[], map}
+use Prim.Native.Nat.{◌-◌, ◌≤◌}
+use native.Mathlib.Nat.{mul-le-mul_right}
+use lib.ListN.{length, take, replicate, length-set}
+use lib.Seq.{paste, paste-zero}
+use Rattle.words.proofs.Fill.{fill-next}
+use Rattle.sharing.proofs.Elements.{rows_of, rows-length, row_at, rows_back}
+use Rattle.sharing.proofs.Loaded.{front}
+use Rattle.sharing.proofs.load_shares.Reads as reads
+use Rattle.sharing.proofs.load_shares.Lts as lts
+use Rattle.ring.proofs.load.Reads as load-reads
+use Rattle.sharing.proofs.load_shares.Goals as goal
+
+-- src/lib.rt:160:5
+pub loop-i-init : goal.loop-i-init
+loop-i-init c = (search rules, refl, paste-zero (replicate 63 (replicate 6 0)) 0 (rows_of c.args.d c.args.m c.args.shares.now))
+
+-- src/lib.rt:161:38
+pub overflow_mul-i : goal.overflow_mul-i
+overflow_mul-i c = omega (arith, mul-le-mul_right c.args.d c.loop-i.invariant.0)
+
+-- src/lib.rt:161:16
+pub load-requires : goal.load-requires
+load-requires c = ((omega arith, omega arith), omega (arith, mul-le-mul_right c.args.d c.loop-i-test.true))
+
+-- src/lib.rt:160:5
+pub loop-i-preserved : goal.loop-i-preserved
+loop-i-preserved c =
+    let d = c.args.d in
+    let m = c.args.m in
+    let r = rows_of d m c.args.shares.now in
+    let hr : length r ≡ m = rows-length d m c.args.shares.now in (
+      omega arith,
+      simp length-set c.loop-i.invariant.1,
+      fill-next (replicate 63 (replicate 6 0)) r c.loop-i.r c.loop-i.i [] c.load.result c.loop-i.invariant.2 (omega arith) (omega arith)
+          (c.load.ensures ∙ sym (row_at d m c.args.shares.now c.loop-i.i (omega arith))),
+    )
+
+-- src/lib.rt:154:1
+pub returns : goal.returns
+returns c =
+    let d = c.args.d in
+    let m = c.args.m in
+    let ws = c.args.shares.now in
+    let e : c.loop-i.i ≡ m = omega arith in
+    ap (map (take d)) (front (replicate 63 (replicate 6 0)) (rows_of d m ws) c.loop-i.r m (rw e at c.loop-i.invariant.2) (rows-length d m ws))
+    ∙ rows_back d m ws (omega arith)

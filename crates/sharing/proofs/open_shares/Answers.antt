@@ -1,0 +1,125 @@
+-- `sharing::open_shares` meets its contract: the refusals of the lent shares, and then what the decoder makes of them, handed out. Assumes nothing.
+use native.Mathlib.Omega.{arith}
+use mathlib.Core.Path.{◌≡◌, refl, sym, ◌∙◌}
+use Prim.Native.Nat.{ℕ, ◌≤◌}
+use lib.ListN.{length}
+use Rattle.words.proofs.InRange.{InRange, ok-range}
+use Rattle.polynomial.specs.Rows.{Rows}
+use Rattle.codewords.specs.Opening.{Opening, declines, answer_to}
+use Rattle.codewords.proofs.Opening.{Handed, handed}
+use Rattle.level.specs.Shares.{shares_of}
+use Rattle.decoder.specs.Decoded.{Ordered}
+use Rattle.rounds.proofs.Rows.{zero-shaped}
+use Rattle.sharing.specs.Clear.{LentClear}
+use Rattle.sharing.specs.Opening.{lent, lent_fault, opening}
+use Rattle.sharing.proofs.Faults.{few-holders}
+use Rattle.sharing.proofs.Lent.{lent-clear, lent-sized, lent-width, lent-above, lent-rising, rising-length}
+use Rattle.sharing.proofs.Loaded.{loaded}
+use Rattle.sharing.proofs.Opens.{opening-clear, opening-stopped}
+use borrow.Author.Rules.{rules}
+use Rattle.sharing.proofs.open_shares.Goals as goal
+use Rattle.sharing.proofs.open_shares.Goals.{After-decode-opened, After-load_shares-ys, Else-fault-ne0, Start}
+
+-- the fault of the lent shares, what the call is to give, and what is known where there is no such fault
+abbrev F : Start → ℕ
+F s = lent_fault s.args.p s.args.holders.now s.args.shares.now (length s.args.out.now) (length s.args.wrong.now) (length s.args.lowest.now)
+
+abbrev O : Start → Opening
+O s = opening s.args.p s.args.holders.now s.args.shares.now s.args.e (length s.args.out.now) (length s.args.wrong.now) (length s.args.lowest.now)
+
+no_fault : (c : Else-fault-ne0) → F (goal.at.Else-fault-ne0 c).Start ≡ 0
+no_fault c = sym c.lent_fault-fault.ensures ∙ c.if-fault-ne0.false
+
+abbrev Known : Start → Type 0
+Known s = LentClear s.args.p s.args.holders.now s.args.shares.now (length s.args.out.now) (length s.args.wrong.now) (length s.args.lowest.now)
+
+known : (c : Else-fault-ne0) → Known (goal.at.Else-fault-ne0 c).Start
+known c = lent-clear c.args.p c.args.holders.now c.args.shares.now (length c.args.out.now) (length c.args.wrong.now) (length c.args.lowest.now) (no_fault c)
+
+range : (c : Else-fault-ne0) → InRange c.args.p
+range c = ok-range c.args.p (known c).params
+
+few : (c : Else-fault-ne0) → length c.args.holders.now ≤ 63
+few c =
+    let k = known c in
+    omega (arith, rising-length c.args.p.n 0 c.args.holders.now k.rising, few-holders c.args.p (range c))
+
+-- the shares in arrays are the lent ones
+same : (c : After-load_shares-ys) → shares_of c.args.p.d (length c.args.holders.now) c.load_holders-hs.result c.load_shares-ys.result
+    ≡ lent c.args.p.d c.args.holders.now c.args.shares.now
+same c =
+    loaded c.args.p.d (length c.args.holders.now) c.args.holders.now c.args.shares.now
+    c.load_holders-hs.result c.load_shares-ys.result refl c.load_holders-hs.ensures
+    c.load_shares-ys.ensures
+
+pub returns-then-fault-ne0 : goal.returns-then-fault-ne0
+returns-then-fault-ne0 c =
+    let e = c.lent_fault-fault.ensures in
+    let z : O (goal.at.returns-then-fault-ne0 c).Start ≡ declines (F (goal.at.returns-then-fault-ne0 c).Start) =
+    opening-stopped c.args.p c.args.holders.now c.args.shares.now c.args.e (length c.args.out.now)
+    (length c.args.wrong.now) (length c.args.lowest.now) (λ z. c.if-fault-ne0.true (e ∙ z)) in
+    rw z (e, (refl, (refl, refl)))
+
+pub load_holders-hs-requires : goal.load_holders-hs-requires
+load_holders-hs-requires c = few c
+
+pub load_shares-ys-requires : goal.load_shares-ys-requires
+load_shares-ys-requires c =
+    let k = known (goal.at.load_shares-ys-requires c).Else-fault-ne0 in
+    let i = range (goal.at.load_shares-ys-requires c).Else-fault-ne0 in
+    ((i.d-low, i.d-high), few (goal.at.load_shares-ys-requires c).Else-fault-ne0, k.words_length)
+
+-- their holders rise
+ordered : (l : After-load_shares-ys) → Ordered l.args.p.n (shares_of l.args.p.d (length l.args.holders.now) l.load_holders-hs.result l.load_shares-ys.result)
+ordered l =
+    let p = l.args.p in
+    let k = known (goal.at.After-load_shares-ys l).Else-fault-ne0 in
+    let hs = l.args.holders.now in
+    let ws = l.args.shares.now in
+    rw (same l) (lent-above p.d p.n 0 hs ws k.rising, lent-rising p.d p.n 0 hs ws k.rising)
+
+pub decode-opened-requires : goal.decode-opened-requires
+decode-opened-requires c =
+    let p = c.args.p in
+    let k = known (goal.at.decode-opened-requires c).Else-fault-ne0 in
+    let hs = c.args.holders.now in
+    let ws = c.args.shares.now in (
+      k.params,
+      few (goal.at.decode-opened-requires c).Else-fault-ne0,
+      ordered (goal.at.decode-opened-requires c).After-load_shares-ys,
+      rw (same (goal.at.decode-opened-requires c).After-load_shares-ys) (lent-sized p.d hs ws k.words_length),
+      λ n. rw (same (goal.at.decode-opened-requires c).After-load_shares-ys) (lent-width p.k p.d hs ws k.words_length (sym c.all_in_width-narrow.ensures ∙ n)),
+      search rules,
+      search rules,
+      zero-shaped,
+    )
+
+abbrev rows : After-decode-opened → Rows
+rows a = a.decode-opened.new.rows
+
+hands : (a : After-decode-opened) →
+    let p = a.args.p in
+    Handed p.k p.d p.t (lent p.d a.args.holders.now a.args.shares.now) a.decode-opened.result.fault (rows a) a.decode-opened.result.wrong
+    (answer_to p a.args.e (lent p.d a.args.holders.now a.args.shares.now))
+hands a =
+    let p = a.args.p in
+    let e = rw (same (goal.at.After-decode-opened a).After-load_shares-ys) at a.decode-opened.ensures in
+    handed p.k p.d p.t (lent p.d a.args.holders.now a.args.shares.now) a.decode-opened.result.fault _ a.decode-opened.result.wrong _
+    e.1.1 e.0 e.1.0
+
+pub hand_out-requires : goal.hand_out-requires
+hand_out-requires c =
+    let k = known (goal.at.hand_out-requires c).Else-fault-ne0 in
+    (k.params, few (goal.at.hand_out-requires c).Else-fault-ne0, ordered (goal.at.hand_out-requires c).After-load_shares-ys, c.decode-opened.ensures.shaped, k.output, k.wrong_output, k.lowest_output, rw (same (goal.at.hand_out-requires c).After-load_shares-ys) (hands (goal.at.hand_out-requires c).After-decode-opened).set)
+
+pub returns : goal.returns
+returns c =
+    let h = rw (same (goal.at.returns c).After-load_shares-ys) at c.hand_out.ensures in
+    let g = hands (goal.at.returns c).After-decode-opened in
+    let z =
+    opening-clear c.args.p c.args.holders.now c.args.shares.now c.args.e (length c.args.out.now) (length c.args.wrong.now)
+    (length c.args.lowest.now) (no_fault (goal.at.returns c).Else-fault-ne0) in
+    rw z (
+      h.0 ∙ g.fault,
+      (h.1.0 ∙ g.secret c.args.out.now, (h.1.1.0 ∙ g.wrong c.args.wrong.now, h.1.1.1 ∙ g.lowest c.args.lowest.now)),
+    )

@@ -1,0 +1,92 @@
+-- `sharing::write_shares` meets its contract: a turn of the loop writes one share more. Assumes nothing.
+use borrow.Author.Rules.{rules}
+use native.Mathlib.Omega.{arith}
+use mathlib.Core.Path.{◌≡◌, refl, sym, ap, ◌∙◌}
+use mathlib.Core.List.{List, ◌∷◌}
+use Prim.Native.Nat.{ℕ, ◌+◌, ◌-◌, ◌*◌, ◌≤◌, ◌<◌}
+use native.Mathlib.Nat.{zero-mul, mul-le-mul_right, lt_of_mul-lt-mul_right}
+use lib.ListN.{length, take, drop}
+use lib.Seq.{paste, paste-zero}
+use Rattle.words.proofs.Fill.{fill-chunk, fill-all}
+use Rattle.galois.specs.Element.{point}
+use Rattle.galois.proofs.Held.{held-take}
+use Rattle.polynomial.specs.Polynomial.{Polynomial, value}
+use Rattle.codewords.proofs.Value.{Rows}
+use Rattle.sharing.specs.Dealing.{elements_of, dealt_from, dealing, dealt}
+use Rattle.sharing.proofs.Elements.{elements-rows}
+use Rattle.sharing.proofs.Horner.{narrow-value}
+use Rattle.sharing.proofs.Dealt.{share-length, shares-length, share-at}
+use Rattle.sharing.proofs.write_shares.Goals as goal
+use Rattle.sharing.proofs.write_shares.Goals.{In-loop-at, Start}
+
+-- the polynomial, that its coefficients have d words each, and what is to be written
+abbrev Q : Start → Polynomial
+Q s = s.args.secret.now ∷ elements_of s.args.p.d s.args.p.t s.args.coefficients.now
+
+rows : (s : Start → Rows s.args.p.d (Q s)
+rows s = (s.requires.3, elements-rows s.args.p.d s.args.p.t s.args.coefficients.now (omega (arith, s.requires.4)))
+
+abbrev S : Start → List ℕ
+S s = dealt_from s.args.p.k s.args.p.d (Q s) s.args.p.n 1
+
+pub loop-at-init : goal.loop-at-init
+loop-at-init c = (omega arith, omega arith, sym (zero-mul c.args.p.d), paste-zero c.args.out.now 0 (S (goal.at.loop-at-init c).Start), refl)
+
+-- in the loop the holder is one of the n
+holder : (c : In-loop-at → let l = c.before in l.loop.x - 1 < l.before.before.before.before.args.p.n
+holder c = lt_of_mul-lt-mul_right c.args.p.d (omega (arith, c.loop-at-test.true, c.loop-at.invariant.2, c.loop-at.invariant.4, c.requires.5))
+
+pub store-requires : goal.store-requires
+store-requires c = ((omega arith, omega arith), omega (arith, mul-le-mul_right c.args.p.d (holder (goal.at.store-requires c).In-loop-at), c.loop-at.invariant.2, c.loop-at.invariant.4, c.requires.5))
+
+pub overflow_add-at : goal.overflow_add-at
+overflow_add-at c =
+    let h : c.loop-at.x - 1 ≤ 63 = omega (arith, holder (goal.at.overflow_add-at c).In-loop-at) in
+    omega (arith, mul-le-mul_right c.args.p.d h, c.loop-at.invariant.2)
+
+pub overflow_add-x : goal.overflow_add-x
+overflow_add-x c = omega (arith, holder (goal.at.overflow_add-x c).In-loop-at)
+
+pub loop-at-smaller : goal.loop-at-smaller
+loop-at-smaller c = omega (arith, holder (goal.at.loop-at-smaller c).In-loop-at)
+
+pub loop-at-preserved : goal.loop-at-preserved
+loop-at-preserved c =
+    let k = c.args.p.k in
+    let d = c.args.p.d in
+    let n = c.args.p.n in
+    let x = c.loop-at.x in
+    let i = x - 1 in
+    let q = Q (goal.at.loop-at-preserved c).Start in
+    let dl : 2 ≤ d = omega arith in
+    let dh : d ≤ 6 = omega arith in
+    let kh : k ≤ 64 = omega arith in
+    let hi : i < n = holder (goal.at.loop-at-preserved c).In-loop-at in
+    let ex : 1 + i ≡ x = omega (arith, c.loop-at.invariant.0) in
+    let at = c.loop-at.invariant.2 in
+    let f : i * d + d ≡ (i + 1) * d = omega arith in
+    let fx : i + 1 ≡ x + 1 - 1 = omega (arith, c.loop-at.invariant.0) in
+    let hs : length (S (goal.at.loop-at-preserved c).Start) ≡ n * d = shares-length k d dl dh q (rows (goal.at.loop-at-preserved c).Start) n 1 in
+    let te : take d c.reduce.result ≡ take d (drop c.loop-at.at (S (goal.at.loop-at-preserved c).Start)) =
+    ap (take d) (c.reduce.ensures ∙ rw c.share_at-e.ensures (narrow-value kh d dl dh q (rows (goal.at.loop-at-preserved c).Start) x))
+    ∙ held-take d (value k d q (point d x)) (share-length k d dl dh q (rows (goal.at.loop-at-preserved c).Start) x)
+    ∙ rw (← ex, at) (sym (share-at k d dl dh q (rows (goal.at.loop-at-preserved c).Start) n 1 i hi)) in (
+      omega arith,
+      omega (arith, hi),
+      rw at f ∙ ap (λ (m : ℕ). m * d) fx,
+      c.store.ensures
+          ∙ rw te
+          (fill-chunk c.args.out.now (S (goal.at.loop-at-preserved c).Start) c.loop-at.out c.loop-at.at d c.loop-at.invariant.3
+          (omega (arith, mul-le-mul_right d hi, at, hs))),
+      c.store.auto.1.0 ∙ c.loop-at.invariant.4,
+    )
+
+pub returns : goal.returns
+unfolding dealt dealing
+returns c =
+    let p = c.args.p in
+    let hs : length (S (goal.at.returns c).Start) ≡ p.n * p.d = shares-length p.k p.d (omega arith) (omega arith) (Q (goal.at.returns c).Start) (rows (goal.at.returns c).Start) p.n 1 in
+    let hx : c.loop-at.x - 1 ≤ p.n = omega (arith, c.loop-at.invariant.1) in
+    let e : c.loop-at.at ≡ p.n * p.d =
+    omega (arith, mul-le-mul_right p.d hx, c.loop-at.invariant.2, c.loop-at-test.false, c.loop-at.invariant.4, c.requires.5) in
+    fill-all c.args.out.now (S (goal.at.returns c).Start) c.loop-at.out (p.n * p.d) (rw e at c.loop-at.invariant.3) hs (omega arith)

@@ -1,0 +1,17 @@
+-- `sliced::slice` meets its contract: a turn of the loop packs one element more. Assumes nothing.
+use borrow.Author.Rules.{rules}
+use native.Mathlib.Omega.{arith}
+use mathlib.Core.Path.{◌≡◌, refl}
+use mathlib.Core.List.{[], map}
+use Prim.Native.Nat.{◌≤◌}
+use lib.ListN.{length, take, drop}
+use Rattle.sliced.specs.Lane.{lane, packed, slice_of}
+use Rattle.sliced.proofs.Lanes.{lane-bits}
+use Rattle.sliced.proofs.Turns.{packed_start, packed-turn, packed-room}
+use Rattle.sliced.proofs.slice.Given as goal
+
+abbrev pub invariant-loop-i : goal.invariant-loop-i
+invariant-loop-i l = (l.i ≤ l.m) × (l.r ≡ packed (map (λ y. lane 6 y l.v) (drop l.i (take l.m l.ys)))) × (length l.r ≡ 6)
+
+abbrev pub decreases-loop-i : goal.decreases-loop-i
+decreases-loop-i l = l.i

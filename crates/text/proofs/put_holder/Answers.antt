@@ -1,0 +1,57 @@
+-- `put_holder`: the holder, a slash and the position, one after another. Assumes nothing.
+use native.Mathlib.Omega.{arith}
+use mathlib.Core.List.{List, ◌++◌}
+use Prim.Native.Nat.{ℕ, ◌+◌, ◌-◌, ◌≤◌}
+use lib.ListN.{length, get_or, length-append}
+use Rattle.decimal.specs.Decimal.{ascii, decimal}
+use Rattle.text.specs.Text.{holder_text}
+use Rattle.decimal.proofs.Written.{Wrote, wrote-more}
+use borrow.Author.Rules.{rules}
+use Rattle.text.proofs.put_holder.Reads as reads
+use Rattle.text.proofs.put_holder.Lts as lts
+use Rattle.decimal.proofs.put_byte.Reads as put-byte-reads
+use Rattle.decimal.proofs.put_decimal.Reads as put-decimal-reads
+use Rattle.text.proofs.put_holder.Goals as goal
+use Rattle.text.proofs.put_holder.Goals.{After-put_byte-q, Start}
+
+abbrev holder : Start → List ℕ
+holder s = decimal s.args.holder
+
+abbrev position : Start → List ℕ
+position s = decimal (get_or s.args.lowest.now (s.args.holder - 1) 0)
+
+room : (s : Start) → s.args.at + (length (holder s) + 1 + length (position s)) ≤ length s.args.out.now
+unfolding holder_text
+room s = omega (arith, s.requires.1, length-append (holder s) (ascii "/"), length-append (holder s ++ ascii "/") (position s))
+
+slash : (c : After-put_byte-q)
+    → Wrote c.args.out.now c.args.at (holder (goal.at.After-put_byte-q c).Start ++ ascii "/") c.put_byte-q.new.out c.put_byte-q.result
+slash c =
+    wrote-more c.args.out.now (holder (goal.at.After-put_byte-q c).Start) (ascii "/") c.args.at (omega (arith, room (goal.at.After-put_byte-q c).Start))
+    c.put_decimal-p.ensures c.put_byte-q.ensures
+
+pub put_decimal-p-requires : goal.put_decimal-p-requires
+put_decimal-p-requires c = omega (arith, room (goal.at.put_decimal-p-requires c).Start)
+
+pub put_byte-q-requires : goal.put_byte-q-requires
+put_byte-q-requires c = omega (arith, room (goal.at.put_byte-q-requires c).Start, c.put_decimal-p.ensures.1, c.put_decimal-p.auto.0)
+
+pub overflow_cast-lowest : goal.overflow_cast-lowest
+overflow_cast-lowest c = omega (arith, c.shared_slice_known-2-1.given (c.args.holder - 1))
+
+pub put_decimal-requires : goal.put_decimal-requires
+put_decimal-requires c =
+    omega (
+      arith,
+      room (goal.at.put_decimal-requires c).Start,
+      (slash (goal.at.put_decimal-requires c).After-put_byte-q).1,
+      length-append (holder (goal.at.put_decimal-requires c).Start) (ascii "/"),
+      c.put_byte-q.auto.0,
+      c.put_decimal-p.auto.0,
+    )
+
+pub returns : goal.returns
+unfolding holder_text
+returns c =
+    wrote-more c.args.out.now (holder (goal.at.returns c).Start ++ ascii "/") (position (goal.at.returns c).Start) c.args.at
+    (omega (arith, room (goal.at.returns c).Start, length-append (holder (goal.at.returns c).Start) (ascii "/"))) (slash (goal.at.returns c).After-put_byte-q) c.put_decimal.ensures

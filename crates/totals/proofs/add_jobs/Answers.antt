@@ -1,0 +1,74 @@
+-- The loop of `add_jobs`: the jobs passed are added, and their words taken together. Assumes nothing.
+use borrow.Author.Rules.{rules}
+use native.Mathlib.Omega.{arith}
+use native.Mathlib.Nat.{mul-le-mul_right}
+use mathlib.Core.Path.{◌≡◌, refl, ◌∙◌}
+use Prim.Native.Nat.{ℕ, ◌+◌, ◌-◌, ◌*◌, ◌≤◌, ◌<◌}
+use lib.Bits.{bit_or}
+use lib.ListN.{length, take, drop}
+use Rattle.words.specs.Word.{in_width, all_in_width}
+use Rattle.galois.specs.Element.{Element, sum, reduce}
+use Rattle.bundle.proofs.Contents.{words_count}
+use Rattle.totals.specs.Values.{every}
+use Rattle.totals.specs.Total.{sum_to}
+use Rattle.totals.proofs.Added.{added_none, added_more, added-rest}
+use Rattle.totals.proofs.Words.{none_seen, more-seen, lanes}
+use Rattle.totals.proofs.Runs.{job_words}
+use Rattle.totals.proofs.add_jobs.Goals as goal
+use Rattle.totals.proofs.add_jobs.Goals.{Start}
+
+-- the words of each job
+abbrev jobs : Start → ℕ → Element
+jobs s = let a = s.args in job_words a.bytes.now a.d a.at a.size
+
+long : (s : Start (i : ℕ) → length (jobs s i) ≡ s.args.d
+long s i = let a = s.args in words_count 8 a.bytes.now a.d (a.at + i * a.size)
+
+-- a job that is read is followed by another, or by the end
+next : (s : Start (p : ℕ) → p < s.args.count → p * s.args.size + s.args.size ≤ s.args.count * s.args.size
+next s p h = omega (arith, mul-le-mul_right s.args.size h)
+
+pub loop-p-init : goal.loop-p-init
+loop-p-init c =
+    (
+      omega arith,
+      omega arith,
+      λ k. none_seen k (λ i. all_in_width k (jobs (goal.at.loop-p-init c).Start i)),
+      λ k h. added_none c.args.d c.args.running.now (jobs (goal.at.loop-p-init c).Start) k,
+      refl,
+      refl,
+    )
+
+pub add_words-seen-requires : goal.add_words-seen-requires
+add_words-seen-requires c =
+    let l = c.loop-p in
+    (omega (arith, next (goal.at.add_words-seen-requires c).Start l.p c.loop-p-test.true), omega arith)
+
+pub overflow_add-here : goal.overflow_add-here
+overflow_add-here c =
+    let l = c.loop-p in
+    omega (arith, next (goal.at.overflow_add-here c).Start l.p c.loop-p-test.true)
+
+pub loop-p-preserved : goal.loop-p-preserved
+loop-p-preserved c =
+    let l = c.loop-p in
+    let a = c.args in
+    let w = c.add_words-seen in
+    let y = w.new.1.1.1.0 in
+    let u : a.d ≤ length l.running = omega arith in
+    let e = rw l.invariant.1 at w.ensures in (
+      omega arith,
+      omega arith,
+      λ k.
+          lanes k l.even l.odd w.result.even w.result.odd
+          ∙ more-seen k (bit_or l.even l.odd) _ (λ i. all_in_width k (jobs (goal.at.loop-p-preserved c).Start i)) l.p (l.invariant.2 k) (e.0 k),
+      λ k h. added_more a.d a.running.now (jobs (goal.at.loop-p-preserved c).Start) l.p (long (goal.at.loop-p-preserved c).Start l.p) l.running y u e.1 k h (l.invariant.3 k h),
+      added-rest a.d a.running.now (jobs (goal.at.loop-p-preserved c).Start) l.p (long (goal.at.loop-p-preserved c).Start l.p) l.running y u e.1 l.invariant.4,
+      w.auto.1.1.1.0 ∙ l.invariant.5,
+    )
+
+pub returns : goal.returns
+returns c =
+    let l = c.loop-p in
+    let e : l.p ≡ c.args.count = omega arith in
+    (λ k. rw e at (l.invariant.2 k), λ k h. rw e at (l.invariant.3 k h), l.invariant.4)

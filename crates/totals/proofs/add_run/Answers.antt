@@ -1,0 +1,116 @@
+-- `add_run`: in each arm the contract of `add_jobs` at that d, of the jobs of the run; the words are then cut. Assumes nothing.
+use borrow.Author.Rules.{rules}
+use native.Mathlib.Omega.{arith}
+use mathlib.Core.Logic.{⊎_elim}
+use mathlib.Core.Path.{◌≡◌, refl, ap, ◌∙◌}
+use mathlib.Core.List.{List, ◌++◌}
+use Prim.Native.Nat.{ℕ, ◌+◌, ◌-◌, ◌*◌, ◌≤◌}
+use lib.ListN.{length, take, drop}
+use Rattle.words.specs.Word.{in_width, all_in_width}
+use Rattle.words.proofs.InRange.{InRange, six}
+use Rattle.galois.specs.Element.{sum, reduce}
+use Rattle.records.specs.Layout.{record_size, head_size, job_size, file_size, order_size}
+use Rattle.bundle.proofs.Bundles.{bundle-ok, ranges-of}
+use Rattle.fetch.proofs.Places.{job-asks}
+use Rattle.totals.specs.Values.{every}
+use Rattle.totals.specs.Total.{sum_to, run_total, run_in_width, added_to}
+use Rattle.totals.proofs.Runs.{job_words, run-within, run-told}
+use Rattle.totals.proofs.add_run.Goals as goal
+use Rattle.totals.proofs.add_run.Goals.{After-job_at, After-job_length-size, In_default, Joined-d, Start}
+
+abbrev bs : Start → List ℕ
+bs s = s.args.bytes.now
+
+abbrev old : Start → List ℕ
+old s = s.args.running.now
+
+book : (s : Start) → InRange s.args.h.params
+book s = (ranges-of (bs s) (bundle-ok (bs s) s.requires.0) s.args.h s.requires.1).book
+
+-- the run ends where the jobs do, at the latest
+ends : (s : Start) → s.args.a + (s.args.b - s.args.a) ≤ s.args.h.jobs
+ends s = omega (arith, s.requires.3, s.requires.4)
+
+-- where the words of the first job stand
+start : (c : After-job_at) → let h = c.args.h in
+    c.job_at.result + 6 + 8 ≡ order_size + c.args.f * file_size h + head_size h + c.args.a * job_size h + 6 + 8
+start c = ap (λ (x : ℕ). x + 6 + 8) c.job_at.ensures
+
+near : (c : After-job_at) → c.job_at.result ≤ length (bs (goal.at.After-job_at c).Start) + 62
+near c =
+    let h = c.args.h in
+    let w = run-within (bs (goal.at.After-job_at c).Start) c.requires.0 h c.requires.1 c.args.f c.args.a (c.args.b - c.args.a) (c.job_at.result + 6 + 8) (job_size h)
+    h.params.d c.requires.2 (ends (goal.at.After-job_at c).Start) (start c) refl refl in
+    omega (arith, w.0, w.1)
+
+abbrev Told : After-job_length-size → ℕ → List ℕ → Type 0
+Told c r y =
+    let k = c.args.h.params.k in
+    let d = c.args.h.params.d in
+    let n = c.args.b - c.args.a in
+    (in_width k r ≡ run_in_width (bs (goal.at.After-job_length-size c).Start) c.args.f c.args.a n)
+    × (reduce k (take d y) ++ drop d y ≡ added_to k (old (goal.at.After-job_length-size c).Start) (run_total (bs (goal.at.After-job_length-size c).Start) c.args.f c.args.a n)) × (length y ≡ length (old (goal.at.After-job_length-size c).Start))
+
+-- in the arm of d: what it asks of `add_jobs`, and what it then tells
+apart : (c : After-job_length-size) → 4 + c.job_length-size.result ≡ job_size c.args.h
+unfolding record_size
+apart c = ap (λ (x : ℕ). 4 + x) c.job_length-size.ensures
+
+-- past 2, 3, 4 and 5
+last : (c : In_default) → c.args.h.params.d ≡ 6
+last c =
+    let r = c.in_default.in_default-own.rest in
+    six c.args.h.params.d (book (goal.at.In_default c).Start).d-low (book (goal.at.In_default c).Start).d-high r.0.0.0.1 r.0.0.1 r.0.1 r.1
+
+-- where the arms meet
+met : (c : Joined-d) → Told (goal.at.Joined-d c).After-job_length-size c.match-d.seen c.match-d.running
+met c =
+    let t = told (goal.at.Joined-d c).After-job_length-size in
+    ⊎_elim (λ w. rw (w.5, w.6) (t 2 w.0.keys1 _ _ w.2.ensures w.2.kept.1.1.1.1.1.0))
+    (⊎_elim (λ w. rw (w.5, w.6) (t 3 w.0.keys2 _ _ w.2.ensures w.2.kept.1.1.1.1.1.0))
+    (⊎_elim (λ w. rw (w.5, w.6) (t 4 w.0.keys3 _ _ w.2.ensures w.2.kept.1.1.1.1.1.0))
+    (⊎_elim (λ w. rw (w.5, w.6) (t 5 w.0.keys4 _ _ w.2.ensures w.2.kept.1.1.1.1.1.0))
+    (λ w.
+    rw (w.5, w.6) (t 6 (last (record { before = (goal.at.Joined-d c).After-job_length-size; match = w.0 })) _ _ w.2.ensures w.2.kept.1.1.1.1.1.0)))))
+    c.match-d.branch
+
+pub cut_words-requires : goal.cut_words-requires
+cut_words-requires c = (((book (goal.at.cut_words-requires c).Start).k-low, (book (goal.at.cut_words-requires c).Start).k-high), omega (arith, c.requires.5, (met (goal.at.cut_words-requires c).Joined-d).2))
+
+pub shape_of-running : goal.shape_of-running
+shape_of-running c = c.cut_words.auto.1.1.0 ∙ (met (goal.at.shape_of-running c).Joined-d).2
+
+pub returns : goal.returns
+returns c =
+    let m = met (goal.at.returns c).Joined-d in
+    (m.0, c.cut_words.ensures ∙ m.1)
+
+pub job_at-requires : goal.job_at-requires
+job_at-requires c = job-asks (bs (goal.at.job_at-requires c).Start) c.requires.0 c.args.h c.requires.1 c.args.f c.requires.2 c.args.a (omega (arith, ends (goal.at.job_at-requires c).Start))
+
+pub overflow_add-at : goal.overflow_add-at
+overflow_add-at c = omega (arith, near c, c.well_formed)
+
+pub overflow_add-at-2 : goal.overflow_add-at-2
+overflow_add-at-2 c = omega (arith, near c, c.well_formed)
+
+pub job_length-size-requires : goal.job_length-size-requires
+job_length-size-requires c = (book (goal.at.job_length-size-requires c).Start).d-high
+
+pub overflow_add-size : goal.overflow_add-size
+overflow_add-size c = omega (arith, (within c c.args.h.params.d refl).0)
+
+pub add_jobs-seen-requires : goal.add_jobs-seen-requires
+add_jobs-seen-requires c = within (goal.at.add_jobs-seen-requires c).After-job_length-size 2 c.in-2.is
+
+pub add_jobs-seen-requires-in-3 : goal.add_jobs-seen-requires-in-3
+add_jobs-seen-requires-in-3 c = within (goal.at.add_jobs-seen-requires-in-3 c).After-job_length-size 3 c.in-3.is
+
+pub add_jobs-seen-requires-in-4 : goal.add_jobs-seen-requires-in-4
+add_jobs-seen-requires-in-4 c = within (goal.at.add_jobs-seen-requires-in-4 c).After-job_length-size 4 c.in-4.is
+
+pub add_jobs-seen-requires-in-5 : goal.add_jobs-seen-requires-in-5
+add_jobs-seen-requires-in-5 c = within (goal.at.add_jobs-seen-requires-in-5 c).After-job_length-size 5 c.in-5.is
+
+pub add_jobs-seen-requires-in_default : goal.add_jobs-seen-requires-in_default
+add_jobs-seen-requires-in_default c = within (goal.at.add_jobs-seen-requires-in_default c).After-job_length-size 6 (last (goal.at.add_jobs-seen-requires-in_default c).In_default)

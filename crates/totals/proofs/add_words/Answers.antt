@@ -1,0 +1,70 @@
+-- The loop of `add_words`: the first j words are added where they stand, and taken together; two more a turn. Assumes nothing.
+use borrow.Author.Rules.{rules}
+use native.Mathlib.Omega.{arith}
+use mathlib.Core.Path.{◌≡◌, refl, sym, ap, ◌∙◌}
+use mathlib.Core.Bool.{Bool, ◌&&◌}
+use mathlib.Core.List.{List}
+use Prim.Native.Nat.{ℕ, ◌+◌, ◌-◌, ◌*◌, ◌≤◌, ◌<◌}
+use native.Mathlib.Nat.{zero-add, le_of_eq}
+use lib.ListN.{length, get_or, set, drop, length-set}
+use lib.Bits.{bit_or, or_self}
+use lib.Seq.{paste}
+use Rattle.words.specs.Word.{add_w, in_width, all_in_width}
+use Rattle.words.proofs.Fill.{fill-within}
+use Rattle.words.proofs.Width.{none_seen, one_seen, all_seen}
+use Rattle.galois.specs.Element.{Element, sum}
+use Rattle.records.specs.Num.{le_at}
+use Rattle.bundle.specs.Contents.{words_from}
+use Rattle.bundle.proofs.Contents.{words_count, words-at}
+use Rattle.totals.specs.Total.{added_to}
+use Rattle.totals.proofs.Sums.{zip-within}
+use Rattle.totals.proofs.Added.{zip-count, fill_here}
+use Rattle.totals.proofs.Words.{lanes, in-turn}
+use Rattle.totals.proofs.add_words.Goals as goal
+use Rattle.totals.proofs.add_words.Goals.{Start}
+
+-- the first j words are added, and those seen
+abbrev Passed : Element → List ℕ → List ℕ → ℕ → ℕ → Type 0
+Passed w old new seen j = ((k : ℕ) → (in_width k seen && all_in_width k (drop j w)) ≡ all_in_width k w) × (new ≡ paste old 0 (sum 64 old w) j)
+
+pub bounds-running-j-in-loop-j-2 : goal.bounds-running-j-in-loop-j-2
+bounds-running-j-in-loop-j-2 c = rw length-set (omega arith)
+
+pub bounds-running-j-in-loop-j-3 : goal.bounds-running-j-in-loop-j-3
+bounds-running-j-in-loop-j-3 c = rw length-set (omega arith)
+
+pub loop-j-preserved : goal.loop-j-preserved
+loop-j-preserved c =
+    let l = c.loop-j in
+    let e = l.even in
+    let o = l.odd in
+    let v = c.load_word-v.result in
+    let u = c.load_word-w.result in
+    let two : l.j + 1 + 1 ≡ l.j + 2 = omega arith in
+    let p = next (goal.at.loop-j-preserved c).Start l.running (bit_or e o) l.j _ v _ l.invariant.2 (omega arith) l.invariant.1 c.load_word-v.ensures
+    c.add.ensures in
+    let q = next (goal.at.loop-j-preserved c).Start _ _ (l.j + 1) _ u _ p (omega arith) (omega (arith, l.invariant.1)) c.load_word-w.ensures c.add-in-loop-j.ensures in (
+      omega arith,
+      omega arith,
+      rw two at (turned (goal.at.loop-j-preserved c).Start _ (bit_or (bit_or e v) (bit_or o u)) _ (l.j + 1 + 1) (λ k. lanes k e o v u ∙ in-turn k (bit_or e o) v u) q),
+      simp length-set l.invariant.3,
+    )
+
+-- the last word, where d is odd
+pub returns-then-j-d : goal.returns-then-j-d
+returns-then-j-d c =
+    let l = c.loop-j in
+    let e = l.even in
+    let o = l.odd in
+    let v = c.load_word-w-then-j-d.result in
+    let p = next (goal.at.returns-then-j-d c).Start l.running (bit_or e o) l.j _ v _ l.invariant.2 (omega arith) l.invariant.1 c.load_word-w-then-j-d.ensures c.add-then-j-d.ensures in
+    let x = bit_or (bit_or e v) (bit_or o v) in
+    done (goal.at.returns-then-j-d c).Start _ x (l.j + 1) (turned (goal.at.returns-then-j-d c).Start _ x _ (l.j + 1) (λ k. rw (or_self v) at (lanes k e o v v)) p) (omega arith)
+
+pub returns : goal.returns
+returns c =
+    let l = c.loop-j in
+    done (goal.at.returns c).Start l.running (bit_or l.even l.odd) l.j l.invariant.2 (omega arith)
+
+pub loop-j-init : goal.loop-j-init
+loop-j-init c = (omega arith, omega arith, (λ k. none_seen k (w (goal.at.loop-j-init c).Start), refl), refl)

@@ -1,0 +1,37 @@
+-- `locate`: each return is a case of the number for a run of a holder's file. Assumes nothing.
+use borrow.Author.Rules.{rules}
+use mathlib.Core.Path.{ap₂, ◌∙◌}
+use mathlib.Core.List.{List}
+use Prim.Native.Nat.{ℕ}
+use Rattle.words.specs.Refusal.{first}
+use Rattle.bundle.proofs.Bundles.{accept-none, accept-files, accept-heading}
+use Rattle.totals.proofs.Totals.{asked-refused, asked-told}
+use Rattle.totals.proofs.locate.Goals as goal
+use Rattle.totals.proofs.locate.Goals.{Start}
+
+abbrev bs : Start → List ℕ
+bs s = s.args.bytes.now
+
+pub returns-then-accepted-ne0 : goal.returns-then-accepted-ne0
+returns-then-accepted-ne0 c =
+    let r = c.accept-accepted in (
+      asked-refused (bs (goal.at.returns-then-accepted-ne0 c).Start) c.args.holder c.args.a c.args.b c.args.out r.result r.ensures c.if-accepted-ne0.true,
+      λ z. absurd (c.if-accepted-ne0.true z),
+    )
+
+pub find_file-file-requires : goal.find_file-file-requires
+find_file-file-requires c =
+    let s = bs (goal.at.find_file-file-requires c).Start in
+    let r = c.accept-accepted in
+    (accept-none s r.result r.ensures c.if-accepted-ne0.false, accept-files s r.result r.ensures c.if-accepted-ne0.false)
+
+pub returns : goal.returns
+returns c =
+    let r = c.accept-accepted in
+    let z = c.if-accepted-ne0.false in (
+      c.first-fault.ensures
+          ∙ ap₂ first c.holder_fault.ensures
+          (c.first.ensures ∙ ap₂ first c.length_fault.ensures c.run_fault.ensures)
+          ∙ asked-told (bs (goal.at.returns c).Start) c.args.holder c.args.a c.args.b c.args.out r.result r.ensures z _ c.find_file-file.ensures,
+      λ _. (accept-heading (bs (goal.at.returns c).Start) r.result r.ensures z, c.find_file-file.ensures),
+    )

@@ -1,0 +1,25 @@
+-- The loop of `put_jobs`: the first p jobs are written. Assumes nothing.
+use mathlib.Core.Path.{◌≡◌, refl, sym, ap, ◌∙◌}
+use Prim.Native.Nat.{ℕ, ◌+◌, ◌-◌, ◌*◌, ◌≤◌, ◌<◌}
+use native.Mathlib.Nat.{mul-le-mul_right}
+use mathlib.Core.List.{List, ◌++◌}
+use borrow.Author.Rules.{rules}
+use native.Mathlib.Omega.{arith}
+use lib.ListN.{length, get_or, take, drop, length-append}
+use lib.Seq.{take_all}
+use Rattle.records.specs.Layout.{record_size, job_size}
+use Rattle.bundle.specs.Contents.{Job}
+use Rattle.records.specs.declared.Heading.{Heading}
+use Rattle.records.proofs.Lengths.{job-high}
+use Rattle.writer.specs.Bytes.{job_bytes, jobs_bytes}
+use Rattle.writer.specs.Write.{job_of, jobs_of}
+use Rattle.writer.proofs.Put.{Written, written_none, written-more, written-length, written-end}
+use Rattle.writer.proofs.Fits.{job-length}
+use Rattle.writer.proofs.Calls.{jobs-count, jobs-more, job-words}
+use Rattle.writer.proofs.put_jobs.Given as goal
+
+abbrev pub invariant-loop-p : goal.invariant-loop-p
+invariant-loop-p l = At l.initial.out l.at l.h l.numbers l.words l.out l.p
+
+abbrev pub decreases-loop-p : goal.decreases-loop-p
+decreases-loop-p l = length l.numbers - l.p

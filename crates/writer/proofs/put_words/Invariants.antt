@@ -1,0 +1,20 @@
+-- The loop of `put_words`: the first i words are written. Assumes nothing.
+use mathlib.Core.Path.{◌≡◌, refl, ap, ◌∙◌}
+use Prim.Native.Nat.{ℕ, ◌+◌, ◌-◌, ◌*◌, ◌≤◌, ◌<◌}
+use mathlib.Core.List.{List, ◌++◌}
+use borrow.Author.Rules.{rules}
+use native.Mathlib.Omega.{arith}
+use lib.ListN.{length, get_or, take, drop, length-drop}
+use lib.Seq.{length-take-le, get_or-take, get_or-drop, take_all}
+use Rattle.records.specs.Num.{le_bytes}
+use Rattle.writer.specs.Bytes.{words_bytes}
+use Rattle.writer.proofs.Put.{Written, written_none, written-number, written-length, written-end}
+use Rattle.writer.proofs.Fits.{words_length}
+use Rattle.writer.proofs.Calls.{words_more}
+use Rattle.writer.proofs.put_words.Given as goal
+
+abbrev pub invariant-loop-i : goal.invariant-loop-i
+invariant-loop-i l =     (l.i ≤ l.d) × (l.here ≡ l.at + 8 * l.i) × (length l.out ≡ length l.initial.out) × Written l.initial.out l.at (words_bytes 8 (take l.i (S l.words l.from l.d))) l.out
+
+abbrev pub decreases-loop-i : goal.decreases-loop-i
+decreases-loop-i l = l.d - l.i
