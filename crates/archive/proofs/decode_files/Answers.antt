@@ -22,22 +22,24 @@ same s = arrays (bs s) s.args.h s.requires.1 s.args.files s.requires.2 s.args.ho
 
 pub decode-requires : goal.decode-requires
 decode-requires c =
-    let hs = c.args.holders.now in
-    let a = askable (bs (goal.at.decode-requires c).Start) c.args.h c.requires.1 c.args.files c.requires.2 c.requires.0 c.args.shares.now in (
+    let s = (goal.at.decode-requires c).Start in
+    let hs = s.args.holders.now in
+    let a = askable (bs s) s.args.h s.requires.1 s.args.files s.requires.2 s.requires.0 s.args.shares.now in (
       a.0,
       a.1,
-      rw (same (goal.at.decode-requires c).Start) a.2,
-      rw (same (goal.at.decode-requires c).Start) c.requires.4,
-      rw (same (goal.at.decode-requires c).Start) c.requires.5,
-      loaded-length (bs (goal.at.decode-requires c).Start) c.args.h c.requires.1 (files_of (bs (goal.at.decode-requires c).Start)) refl (holder_of (bs (goal.at.decode-requires c).Start)) hs (replicate 63 0) c.requires.0 (length-replicate {A = ℕ} 63 0)
-          c.requires.3,
-      c.requires.6,
-      c.requires.7,
+      rw (same s) a.2,
+      rw (same s) s.requires.4,
+      rw (same s) s.requires.5,
+      loaded-length (bs s) s.args.h s.requires.1 (files_of (bs s)) refl (holder_of (bs s)) hs (replicate 63 0) s.requires.0 (length-replicate {A = ℕ} 63 0)
+          s.requires.3,
+      s.requires.6,
+      s.requires.7,
     )
 
 pub returns : goal.returns
 returns c =
+    let s = (goal.at.returns c).Start in
     let d = c.decode.ensures in
     let m = c.allowance-e in
-    let o = answered (bs (goal.at.returns c).Start) c.args.h c.requires.1 c.args.files c.requires.2 c.args.shares.now _ (same (goal.at.returns c).Start) m.result m.ensures in
-    (d.0 ∙ o, (d.1.0 ∙ ap₂ (wrong_of c.args.h.params.k c.args.h.params.d) (same (goal.at.returns c).Start) o, d.1.1))
+    let o = answered (bs s) s.args.h s.requires.1 s.args.files s.requires.2 s.args.shares.now _ (same s) m.result m.ensures in
+    (d.0 ∙ o, (d.1.0 ∙ ap₂ (wrong_of s.args.h.params.k s.args.h.params.d) (same s) o, d.1.1))

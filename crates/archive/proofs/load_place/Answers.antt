@@ -16,7 +16,7 @@ use Rattle.totals.specs.Values.{every}
 use Rattle.totals.proofs.Values.{filled, values-start, values-next, values-done}
 use Rattle.totals.proofs.Words.{words_length, padded, padded-width, none_seen, more-seen, together, six-width}
 use Rattle.archive.proofs.load_place.Goals as goal
-use Rattle.archive.proofs.load_place.Goals.{After-job_words-w, Start}
+use Rattle.archive.proofs.load_place.Goals.{After-job_words-w, At-loop-f, Start}
 
 few : (s : Start → s.args.files ≤ 63
 few s = omega (arith, s.requires.2, files-most s.args.bytes.now (bundle-ok s.args.bytes.now s.requires.0))
@@ -29,7 +29,9 @@ abbrev row : Start → ℕ → Element
 row s g = held s.args.h.params.d (words_of s.args.bytes.now g s.args.place)
 
 pub loop-f-init : goal.loop-f-init
-loop-f-init c = (omega arith, c.requires.4, none_seen c.args.h.params.k (test (goal.at.loop-f-init c).Start), values-start (row (goal.at.loop-f-init c).Start) c.args.files c.args.shares.now)
+loop-f-init c =
+    let s = (goal.at.loop-f-init c).Start in
+    (omega arith, s.requires.4, none_seen s.args.h.params.k (test s), values-start (row s) s.args.files s.args.shares.now)
 
 -- the row that it writes is there
 here : (c : After-job_words-w → c.before.before.loop.f < 63
@@ -43,29 +45,33 @@ bounds-shares-f c = here c
 
 pub loop-f-preserved : goal.loop-f-preserved
 loop-f-preserved c =
-    let a = c.args in
+    let l = (goal.at.loop-f-preserved c).At-loop-f in
+    let s = (goal.at.At-loop-f l).Start in
+    let a = s.args in
     let bs = a.bytes.now in
-    let e = words_of bs c.loop-f.f a.place in
+    let e = words_of bs l.loop-f.f a.place in
     let w = c.job_words-w in
-    let hd = (ranges-of bs (bundle-ok bs c.requires.0) a.h c.requires.1).book.d-high in
-    let long : length e ≡ a.h.params.d = words_length bs c.loop-f.f a.place ∙ ap (λ (x : Heading). x.params.d) (sym c.requires.1) in
+    let hd = (ranges-of bs (bundle-ok bs s.requires.0) a.h s.requires.1).book.d-high in
+    let long : length e ≡ a.h.params.d = words_length bs l.loop-f.f a.place ∙ ap (λ (x : Heading). x.params.d) (sym s.requires.1) in
     let held-words : w.result ≡ held a.h.params.d e = w.ensures ∙ padded a.h.params.d e long in
     let six : length w.result ≡ 6 = ap length held-words ∙ held-length a.h.params.d e long hd in (
       omega (arith, c.loop-f-test.true),
-      length-set c.loop-f.shares c.loop-f.f w.result ∙ c.loop-f.invariant.1,
-      more-seen a.h.params.k c.loop-f.seen (together w.result) (test (goal.at.loop-f-preserved c).Start) c.loop-f.f c.loop-f.invariant.2
+      length-set l.loop-f.shares l.loop-f.f w.result ∙ l.loop-f.invariant.1,
+      more-seen a.h.params.k l.loop-f.seen (together w.result) (test s) l.loop-f.f l.loop-f.invariant.2
           (six-width a.h.params.k w.result six
           ∙ ap (all_in_width a.h.params.k) w.ensures
           ∙ padded-width a.h.params.k a.h.params.d e hd
-          ∙ ap (λ (x : Heading). all_in_width x.params.k e) c.requires.1),
-      values-next (row (goal.at.loop-f-preserved c).Start) a.files a.shares.now c.loop-f.shares c.loop-f.f w.result c.loop-f.invariant.3 c.loop-f-test.true
-          (omega (arith, few (goal.at.loop-f-preserved c).Start, c.requires.4)) held-words,
+          ∙ ap (λ (x : Heading). all_in_width x.params.k e) s.requires.1),
+      values-next (row s) a.files a.shares.now l.loop-f.shares l.loop-f.f w.result l.loop-f.invariant.3 c.loop-f-test.true
+          (omega (arith, few s, s.requires.4)) held-words,
     )
 
 pub returns : goal.returns
 returns c =
-    let e : c.loop-f.f ≡ c.args.files = omega arith in
-    let n : c.loop-f.f ≡ files_of c.args.bytes.now = e ∙ c.requires.2 in (
-      c.loop-f.invariant.2 ∙ ap (every (test (goal.at.returns c).Start)) n,
-      values-done (row (goal.at.returns c).Start) c.args.files c.args.shares.now c.loop-f.shares c.loop-f.f c.loop-f.invariant.3 e,
+    let l = (goal.at.returns c).At-loop-f in
+    let s = (goal.at.At-loop-f l).Start in
+    let e : l.loop-f.f ≡ s.args.files = omega arith in
+    let n : l.loop-f.f ≡ files_of s.args.bytes.now = e ∙ s.requires.2 in (
+      l.loop-f.invariant.2 ∙ ap (every (test s)) n,
+      values-done (row s) s.args.files s.args.shares.now l.loop-f.shares l.loop-f.f l.loop-f.invariant.3 e,
     )

@@ -17,7 +17,7 @@ use Rattle.totals.proofs.Values.{filled, values-start, values-next, values-done}
 use Rattle.totals.proofs.Words.{none_seen, more-seen}
 use Rattle.totals.proofs.Runs.{run-held}
 use Rattle.archive.proofs.load_run.Goals as goal
-use Rattle.archive.proofs.load_run.Goals.{In-loop-f, Start}
+use Rattle.archive.proofs.load_run.Goals.{At-loop-f, In-loop-f, Start}
 
 few : (s : Start → s.args.files ≤ 63
 few s = omega (arith, s.requires.2, files-most s.args.bytes.now (bundle-ok s.args.bytes.now s.requires.0))
@@ -30,7 +30,9 @@ abbrev row : Start → ℕ → Element
 row s g = held s.args.h.params.d (run_total s.args.bytes.now g s.args.a (s.args.b - s.args.a))
 
 pub loop-f-init : goal.loop-f-init
-loop-f-init c = (omega arith, c.requires.5, none_seen c.args.h.params.k (run (goal.at.loop-f-init c).Start), values-start (row (goal.at.loop-f-init c).Start) c.args.files c.args.shares.now)
+loop-f-init c =
+    let s = (goal.at.loop-f-init c).Start in
+    (omega arith, s.requires.5, none_seen s.args.h.params.k (run s), values-start (row s) s.args.files s.args.shares.now)
 
 -- the row that is lent is there, and of zeros
 here : (c : In-loop-f → c.before.loop.f < 63
@@ -55,29 +57,36 @@ book : (s : Start → s.args.h.params.d ≤ 6
 book s = let bs = s.args.bytes.now in (ranges-of bs (bundle-ok bs s.requires.0) s.args.h s.requires.1).book.d-high
 
 pub add_run-seen-requires : goal.add_run-seen-requires
-add_run-seen-requires c = (c.requires.0, c.requires.1, omega (arith, c.requires.2, c.loop-f-test.true), c.requires.3, c.requires.4, rw (zeros (goal.at.add_run-seen-requires c).In-loop-f) (book (goal.at.add_run-seen-requires c).Start))
+add_run-seen-requires c =
+    let i = (goal.at.add_run-seen-requires c).In-loop-f in
+    let s = (goal.at.In-loop-f i).Start in
+    (s.requires.0, s.requires.1, omega (arith, s.requires.2, i.loop-f-test.true), s.requires.3, s.requires.4, rw (zeros i) (book s))
 
 pub loop-f-preserved : goal.loop-f-preserved
 loop-f-preserved c =
-    let l = c.loop-f in
-    let a = c.args in
+    let i = (goal.at.loop-f-preserved c).In-loop-f in
+    let l = i.loop-f in
+    let s = (goal.at.In-loop-f i).Start in
+    let a = s.args in
     let r = c.add_run-seen in
     let v = r.new.1.1.1.1.1.0 in
     let e : set (set l.shares l.f (zero_e 6)) l.f v ≡ set l.shares l.f v = set-set l.shares l.f (zero_e 6) v in
-    let q : v ≡ row (goal.at.loop-f-preserved c).Start l.f =
+    let q : v ≡ row s l.f =
     r.ensures.1
-    ∙ ap (λ (x : List ℕ). added_to a.h.params.k x (run_total a.bytes.now l.f a.a (a.b - a.a))) (zeros (goal.at.loop-f-preserved c).In-loop-f)
-    ∙ run-held a.bytes.now a.h c.requires.1 l.f a.a (a.b - a.a) (book (goal.at.loop-f-preserved c).Start) in (
+    ∙ ap (λ (x : List ℕ). added_to a.h.params.k x (run_total a.bytes.now l.f a.a (a.b - a.a))) (zeros i)
+    ∙ run-held a.bytes.now a.h s.requires.1 l.f a.a (a.b - a.a) (book s) in (
       omega arith,
       ap length e ∙ length-set l.shares l.f v ∙ l.invariant.1,
-      more-seen a.h.params.k l.seen r.result (run (goal.at.loop-f-preserved c).Start) l.f l.invariant.2 r.ensures.0,
-      e ∙ values-next (row (goal.at.loop-f-preserved c).Start) a.files a.shares.now l.shares l.f v l.invariant.3 c.loop-f-test.true (omega (arith, few (goal.at.loop-f-preserved c).Start, c.requires.5)) q,
+      more-seen a.h.params.k l.seen r.result (run s) l.f l.invariant.2 r.ensures.0,
+      e ∙ values-next (row s) a.files a.shares.now l.shares l.f v l.invariant.3 i.loop-f-test.true (omega (arith, few s, s.requires.5)) q,
     )
 
 pub returns : goal.returns
 returns c =
-    let e : c.loop-f.f ≡ c.args.files = omega arith in
-    let n : c.loop-f.f ≡ files_of c.args.bytes.now = e ∙ c.requires.2 in (
-      c.loop-f.invariant.2 ∙ ap (every (run (goal.at.returns c).Start)) n,
-      values-done (row (goal.at.returns c).Start) c.args.files c.args.shares.now c.loop-f.shares c.loop-f.f c.loop-f.invariant.3 e,
+    let l = (goal.at.returns c).At-loop-f in
+    let s = (goal.at.At-loop-f l).Start in
+    let e : l.loop-f.f ≡ s.args.files = omega arith in
+    let n : l.loop-f.f ≡ files_of s.args.bytes.now = e ∙ s.requires.2 in (
+      l.loop-f.invariant.2 ∙ ap (every (run s)) n,
+      values-done (row s) s.args.files s.args.shares.now l.loop-f.shares l.loop-f.f l.loop-f.invariant.3 e,
     )

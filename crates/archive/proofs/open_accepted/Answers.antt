@@ -17,7 +17,7 @@ use Rattle.archive.specs.Archive.{shares_at, place_opening}
 use Rattle.archive.proofs.Ahead.{Passed, passed}
 use Rattle.archive.proofs.Loaded.{arrays, askable}
 use Rattle.archive.proofs.open_accepted.Goals as goal
-use Rattle.archive.proofs.open_accepted.Goals.{After-hand_out-arg-1, After-place_opening-opened, Start}
+use Rattle.archive.proofs.open_accepted.Goals.{After-hand_out, After-hand_out-arg-1, After-place_opening-opened, Start}
 
 abbrev bs : Start → List ℕ
 bs s = s.args.bytes.now
@@ -36,15 +36,15 @@ abbrev fine : (s : Start) →
 fine s = passed _ _ _ _ _ s.requires.0
 
 pub load_holders-holders-requires : goal.load_holders-holders-requires
-load_holders-holders-requires c = ((fine (goal.at.load_holders-holders-requires c).Start).no_fault, c.requires.1, c.requires.2)
+load_holders-holders-requires c = let s = (goal.at.load_holders-holders-requires c).Start in ((fine s).no_fault, s.requires.1, s.requires.2)
 
 pub place_opening-opened-requires : goal.place_opening-opened-requires
 place_opening-opened-requires c =
-    (
-      (fine (goal.at.place_opening-opened-requires c).Start).no_fault,
-      c.requires.1,
-      c.requires.2,
-      place_in c.args.h c.args.place (ap (λ (h : Heading). place_fault h c.args.place) c.requires.1 ∙ (fine (goal.at.place_opening-opened-requires c).Start).rest),
+    let s = (goal.at.place_opening-opened-requires c).Start in (
+      (fine s).no_fault,
+      s.requires.1,
+      s.requires.2,
+      place_in s.args.h s.args.place (ap (λ (h : Heading). place_fault h s.args.place) s.requires.1 ∙ (fine s).rest),
       c.load_holders-holders.ensures,
       search rules,
       zero-shaped,
@@ -66,32 +66,37 @@ hands a =
 
 pub hand_out-requires : goal.hand_out-requires
 hand_out-requires c =
-    let d = ap (λ (h : Heading). h.params.d) c.requires.1 in
-    let k = askable (bs (goal.at.hand_out-requires c).Start) c.args.h c.requires.1 c.args.files c.requires.2 (fine (goal.at.hand_out-requires c).Start).no_fault (shares (goal.at.hand_out-requires c).After-hand_out-arg-1) in (
+    let a = (goal.at.hand_out-requires c).After-hand_out-arg-1 in
+    let s = (goal.at.After-hand_out-arg-1 a).Start in
+    let d = ap (λ (h : Heading). h.params.d) s.requires.1 in
+    let k = askable (bs s) s.args.h s.requires.1 s.args.files s.requires.2 (fine s).no_fault (shares a) in (
       k.0,
       k.1,
-      rw (arrays (bs (goal.at.hand_out-requires c).Start) c.args.h c.requires.1 c.args.files c.requires.2 _ (shares (goal.at.hand_out-requires c).After-hand_out-arg-1) c.load_holders-holders.ensures)
+      rw (arrays (bs s) s.args.h s.requires.1 s.args.files s.requires.2 _ (shares a) a.load_holders-holders.ensures)
           k.2,
-      c.place_opening-opened.ensures.shaped,
-      rw d (fine (goal.at.hand_out-requires c).Start).output,
-      (fine (goal.at.hand_out-requires c).Start).wrong_output,
-      (fine (goal.at.hand_out-requires c).Start).lowest_output,
-      rw c.place_opening-opened.ensures.shares (hands (goal.at.hand_out-requires c).After-hand_out-arg-1).set,
+      a.place_opening-opened.ensures.shaped,
+      rw d (fine s).output,
+      (fine s).wrong_output,
+      (fine s).lowest_output,
+      rw a.place_opening-opened.ensures.shares (hands a).set,
     )
 
 pub returns : goal.returns
 returns c =
-    let h = rw c.place_opening-opened.ensures.shares at c.hand_out.ensures in
-    let x = hands (goal.at.returns c).After-hand_out-arg-1 in
-    let into : (j : Heading → List ℕ) → j c.args.h ≡ j (bundle_heading (bs (goal.at.returns c).Start)) = λ j. ap j c.requires.1 in (
+    let g = (goal.at.returns c).After-hand_out in
+    let a = (goal.at.After-hand_out g).After-hand_out-arg-1 in
+    let s = (goal.at.After-hand_out-arg-1 a).Start in
+    let h = rw a.place_opening-opened.ensures.shares at g.hand_out.ensures in
+    let x = hands a in
+    let into : (j : Heading → List ℕ) → j s.args.h ≡ j (bundle_heading (bs s)) = λ j. ap j s.requires.1 in (
       h.0 ∙ x.fault,
       (
-        h.1.0 ∙ x.secret c.args.out.now,
+        h.1.0 ∙ x.secret s.args.out.now,
         (
-          h.1.1.0 ∙ x.wrong c.args.wrong.now
-              ∙ into (λ (y : Heading). wrong_into y.params.k y.params.d (ss (goal.at.returns c).Start) c.args.wrong.now (O (goal.at.returns c).Start)),
-          h.1.1.1 ∙ x.lowest c.args.lowest.now
-              ∙ into (λ (y : Heading). lowest_into y.params.k y.params.d (ss (goal.at.returns c).Start) c.args.lowest.now (O (goal.at.returns c).Start)),
+          h.1.1.0 ∙ x.wrong s.args.wrong.now
+              ∙ into (λ (y : Heading). wrong_into y.params.k y.params.d (ss s) s.args.wrong.now (O s)),
+          h.1.1.1 ∙ x.lowest s.args.lowest.now
+              ∙ into (λ (y : Heading). lowest_into y.params.k y.params.d (ss s) s.args.lowest.now (O s)),
         ),
       ),
     )

@@ -4,6 +4,7 @@ use mathlib.Core.Path.{refl, sym, ◌∙◌}
 use lib.ListN.{length}
 use Rattle.archive.proofs.Calls.{place-declines, place-opens}
 use Rattle.archive.proofs.open_place.Goals as goal
+use Rattle.archive.proofs.open_place.Goals.{After-open_accepted}
 
 pub returns-then-accepted-ne0 : goal.returns-then-accepted-ne0
 returns-then-accepted-ne0 c =
@@ -22,8 +23,9 @@ open_accepted-requires c =
 
 pub returns : goal.returns
 returns c =
-    let s = c.args in
-    let r = c.accept_place-accepted in
+    let g = (goal.at.returns c).After-open_accepted in
+    let s = g.args in
+    let r = g.accept_place-accepted in
     rw (place-opens s.bytes.now s.place (length s.out.now) (length s.wrong.now) (length s.lowest.now) r.result.fault
-    r.ensures.0 c.if-accepted-ne0.false)
-    c.open_accepted.ensures
+    r.ensures.0 g.if-accepted-ne0.false)
+    g.open_accepted.ensures

@@ -21,7 +21,7 @@ use Rattle.archive.specs.Archive.{shares_over, outputs_fault, run_opening, open_
 use Rattle.archive.proofs.Calls.{call-refused, call-declined, call_opens, call-outputs, call-rest}
 use Rattle.archive.proofs.Loaded.{arrays, askable}
 use Rattle.archive.proofs.open_run.Goals as goal
-use Rattle.archive.proofs.open_run.Goals.{After-first-fault, After-hand_out-arg-1, After-run_opening-opened, Start}
+use Rattle.archive.proofs.open_run.Goals.{After-first-fault, After-hand_out, After-hand_out-arg-1, After-run_opening-opened, Start}
 
 abbrev bs : Start → List ℕ
 bs s = s.args.bytes.now
@@ -60,13 +60,16 @@ told f = f.first-fault.ensures ∙ ap₂ first f.outputs_fault.ensures f.run_fau
 pub returns-then-accepted-ne0 : goal.returns-then-accepted-ne0
 unfolding open_run
 returns-then-accepted-ne0 c =
+    let s = (goal.at.returns-then-accepted-ne0 c).Start in
     let r = c.accept-accepted in
-    rw (call-refused (bs (goal.at.returns-then-accepted-ne0 c).Start) r.result r.ensures (n (goal.at.returns-then-accepted-ne0 c).Start) (w (goal.at.returns-then-accepted-ne0 c).Start) (l (goal.at.returns-then-accepted-ne0 c).Start) (rest (goal.at.returns-then-accepted-ne0 c).Start) (O (goal.at.returns-then-accepted-ne0 c).Start) c.if-accepted-ne0.true) (refl, (refl, (refl, refl)))
+    rw (call-refused (bs s) r.result r.ensures (n s) (w s) (l s) (rest s) (O s) c.if-accepted-ne0.true) (refl, (refl, (refl, refl)))
 
 pub returns-then-fault-ne0 : goal.returns-then-fault-ne0
 unfolding open_run
 returns-then-fault-ne0 c =
-    rw (call-declined (bs (goal.at.returns-then-fault-ne0 c).Start) (R (goal.at.returns-then-fault-ne0 c).After-first-fault) (is-accepted (goal.at.returns-then-fault-ne0 c).After-first-fault) (n (goal.at.returns-then-fault-ne0 c).Start) (w (goal.at.returns-then-fault-ne0 c).Start) (l (goal.at.returns-then-fault-ne0 c).Start) (rest (goal.at.returns-then-fault-ne0 c).Start) (O (goal.at.returns-then-fault-ne0 c).Start) (whole (goal.at.returns-then-fault-ne0 c).After-first-fault) c.first-fault.result (told (goal.at.returns-then-fault-ne0 c).After-first-fault) c.if-fault-ne0.true)
+    let f = (goal.at.returns-then-fault-ne0 c).After-first-fault in
+    let s = (goal.at.After-first-fault f).Start in
+    rw (call-declined (bs s) (R f) (is-accepted f) (n s) (w s) (l s) (rest s) (O s) (whole f) f.first-fault.result (told f) c.if-fault-ne0.true)
     (refl, (refl, (refl, refl)))
 
 -- none of them applies
@@ -80,13 +83,15 @@ files : (f : After-first-fault) → (R f).files ≡ files_of (bs (goal.at.After-
 files f = accept-files (bs (goal.at.After-first-fault f).Start) (R f) (is-accepted f) (whole f)
 
 pub load_holders-holders-requires : goal.load_holders-holders-requires
-load_holders-holders-requires c = (no_fault (goal.at.load_holders-holders-requires c).After-first-fault, heading (goal.at.load_holders-holders-requires c).After-first-fault, files (goal.at.load_holders-holders-requires c).After-first-fault)
+load_holders-holders-requires c = let f = (goal.at.load_holders-holders-requires c).After-first-fault in (no_fault f, heading f, files f)
 
 pub run_opening-opened-requires : goal.run_opening-opened-requires
 run_opening-opened-requires c =
-    let i = run_in (R (goal.at.run_opening-opened-requires c).After-first-fault).heading c.args.a c.args.b
-    (call-rest (bs (goal.at.run_opening-opened-requires c).Start) (R (goal.at.run_opening-opened-requires c).After-first-fault) (is-accepted (goal.at.run_opening-opened-requires c).After-first-fault) (n (goal.at.run_opening-opened-requires c).Start) (w (goal.at.run_opening-opened-requires c).Start) (l (goal.at.run_opening-opened-requires c).Start) (rest (goal.at.run_opening-opened-requires c).Start) (O (goal.at.run_opening-opened-requires c).Start) (whole (goal.at.run_opening-opened-requires c).After-first-fault) c.first-fault.result (told (goal.at.run_opening-opened-requires c).After-first-fault) c.if-fault-ne0.false) in
-    (no_fault (goal.at.run_opening-opened-requires c).After-first-fault, heading (goal.at.run_opening-opened-requires c).After-first-fault, files (goal.at.run_opening-opened-requires c).After-first-fault, i.0, i.1, c.load_holders-holders.ensures, search rules, zero-shaped)
+    let f = (goal.at.run_opening-opened-requires c).After-first-fault in
+    let s = (goal.at.After-first-fault f).Start in
+    let i = run_in (R f).heading s.args.a s.args.b
+    (call-rest (bs s) (R f) (is-accepted f) (n s) (w s) (l s) (rest s) (O s) (whole f) f.first-fault.result (told f) c.if-fault-ne0.false) in
+    (no_fault f, heading f, files f, i.0, i.1, c.load_holders-holders.ensures, search rules, zero-shaped)
 
 abbrev rows : After-run_opening-opened → Rows
 rows a = a.run_opening-opened.new.rows
@@ -94,45 +99,53 @@ rows a = a.run_opening-opened.new.rows
 abbrev shares : After-run_opening-opened → Rows
 shares a = a.run_opening-opened.new.shares
 
-hands : (a : After-run_opening-opened) → let p = (R (goal.at.After-run_opening-opened a).After-first-fault).heading.params in
-    Handed p.k p.d p.t (ss (goal.at.After-run_opening-opened a).Start) a.run_opening-opened.result.fault (rows a) a.run_opening-opened.result.wrong (O (goal.at.After-run_opening-opened a).Start)
+hands : (a : After-run_opening-opened) → let f = (goal.at.After-run_opening-opened a).After-first-fault in let p = (R f).heading.params in
+    Handed p.k p.d p.t (ss (goal.at.After-first-fault f).Start) a.run_opening-opened.result.fault (rows a) a.run_opening-opened.result.wrong (O (goal.at.After-first-fault f).Start)
 hands a =
-    let p = (R (goal.at.After-run_opening-opened a).After-first-fault).heading.params in
+    let f = (goal.at.After-run_opening-opened a).After-first-fault in
+    let p = (R f).heading.params in
     let e = a.run_opening-opened.ensures in
-    handed p.k p.d p.t (ss (goal.at.After-run_opening-opened a).Start) a.run_opening-opened.result.fault (rows a) a.run_opening-opened.result.wrong (O (goal.at.After-run_opening-opened a).Start) e.1.1.1 e.0
+    handed p.k p.d p.t (ss (goal.at.After-first-fault f).Start) a.run_opening-opened.result.fault (rows a) a.run_opening-opened.result.wrong (O (goal.at.After-first-fault f).Start) e.1.1.1 e.0
     e.1.0
 
 pub hand_out-requires : goal.hand_out-requires
 hand_out-requires c =
-    let e = c.run_opening-opened.ensures.shares in
+    let a = (goal.at.hand_out-requires c).After-hand_out-arg-1 in
+    let f = (goal.at.After-hand_out-arg-1 a).After-first-fault in
+    let s = (goal.at.After-first-fault f).Start in
+    let e = a.run_opening-opened.ensures.shares in
     let o =
-    call-outputs (bs (goal.at.hand_out-requires c).Start) (R (goal.at.hand_out-requires c).After-first-fault) (is-accepted (goal.at.hand_out-requires c).After-first-fault) (n (goal.at.hand_out-requires c).Start) (w (goal.at.hand_out-requires c).Start) (l (goal.at.hand_out-requires c).Start) (rest (goal.at.hand_out-requires c).Start) (O (goal.at.hand_out-requires c).Start) (whole (goal.at.hand_out-requires c).After-first-fault) c.first-fault.result (told (goal.at.hand_out-requires c).After-first-fault) c.if-fault-ne0.false in
-    let k = askable (bs (goal.at.hand_out-requires c).Start) (R (goal.at.hand_out-requires c).After-first-fault).heading (heading (goal.at.hand_out-requires c).After-first-fault) (R (goal.at.hand_out-requires c).After-first-fault).files (files (goal.at.hand_out-requires c).After-first-fault) (no_fault (goal.at.hand_out-requires c).After-first-fault) (shares (goal.at.hand_out-requires c).After-hand_out-arg-1) in (
+    call-outputs (bs s) (R f) (is-accepted f) (n s) (w s) (l s) (rest s) (O s) (whole f) f.first-fault.result (told f) c.if-fault-ne0.false in
+    let k = askable (bs s) (R f).heading (heading f) (R f).files (files f) (no_fault f) (shares a) in (
       k.0,
       k.1,
-      rw (arrays (bs (goal.at.hand_out-requires c).Start) (R (goal.at.hand_out-requires c).After-first-fault).heading (heading (goal.at.hand_out-requires c).After-first-fault) (R (goal.at.hand_out-requires c).After-first-fault).files (files (goal.at.hand_out-requires c).After-first-fault) _ (shares (goal.at.hand_out-requires c).After-hand_out-arg-1) c.load_holders-holders.ensures) k.2,
-      c.run_opening-opened.ensures.shaped,
+      rw (arrays (bs s) (R f).heading (heading f) (R f).files (files f) _ (shares a) a.load_holders-holders.ensures) k.2,
+      a.run_opening-opened.ensures.shaped,
       o.0,
       o.1,
       o.2,
-      rw e (hands (goal.at.hand_out-requires c).After-hand_out-arg-1).set,
+      rw e (hands a).set,
     )
 
 pub returns : goal.returns
 unfolding open_run
 returns c =
-    let h = rw c.run_opening-opened.ensures.shares at c.hand_out.ensures in
-    let x = hands (goal.at.returns c).After-hand_out-arg-1 in
-    let into : (j : Heading → List ℕ) → j (R (goal.at.returns c).After-first-fault).heading ≡ j (bundle_heading (bs (goal.at.returns c).Start)) = λ j. ap j (heading (goal.at.returns c).After-first-fault) in
-    rw (call_opens (bs (goal.at.returns c).Start) (R (goal.at.returns c).After-first-fault) (is-accepted (goal.at.returns c).After-first-fault) (n (goal.at.returns c).Start) (w (goal.at.returns c).Start) (l (goal.at.returns c).Start) (rest (goal.at.returns c).Start) (O (goal.at.returns c).Start) (whole (goal.at.returns c).After-first-fault) c.first-fault.result (told (goal.at.returns c).After-first-fault) c.if-fault-ne0.false) (
+    let g = (goal.at.returns c).After-hand_out in
+    let a = (goal.at.After-hand_out g).After-hand_out-arg-1 in
+    let f = (goal.at.After-hand_out-arg-1 a).After-first-fault in
+    let s = (goal.at.After-first-fault f).Start in
+    let h = rw a.run_opening-opened.ensures.shares at g.hand_out.ensures in
+    let x = hands a in
+    let into : (j : Heading → List ℕ) → j (R f).heading ≡ j (bundle_heading (bs s)) = λ j. ap j (heading f) in
+    rw (call_opens (bs s) (R f) (is-accepted f) (n s) (w s) (l s) (rest s) (O s) (whole f) f.first-fault.result (told f) c.if-fault-ne0.false) (
       h.0 ∙ x.fault,
       (
-        h.1.0 ∙ x.secret c.args.out.now,
+        h.1.0 ∙ x.secret s.args.out.now,
         (
-          h.1.1.0 ∙ x.wrong c.args.wrong.now
-              ∙ into (λ (y : Heading). wrong_into y.params.k y.params.d (ss (goal.at.returns c).Start) c.args.wrong.now (O (goal.at.returns c).Start)),
-          h.1.1.1 ∙ x.lowest c.args.lowest.now
-              ∙ into (λ (y : Heading). lowest_into y.params.k y.params.d (ss (goal.at.returns c).Start) c.args.lowest.now (O (goal.at.returns c).Start)),
+          h.1.1.0 ∙ x.wrong s.args.wrong.now
+              ∙ into (λ (y : Heading). wrong_into y.params.k y.params.d (ss s) s.args.wrong.now (O s)),
+          h.1.1.1 ∙ x.lowest s.args.lowest.now
+              ∙ into (λ (y : Heading). lowest_into y.params.k y.params.d (ss s) s.args.lowest.now (O s)),
         ),
       ),
     )

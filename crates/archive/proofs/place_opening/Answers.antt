@@ -34,31 +34,37 @@ abbrev rows : After-load_place-seen → Rows
 rows c = c.load_place-seen.new.shares
 
 -- the shares that it leaves
-stands : (l : After-load_place-seen) → shares_of l.args.h.params.d l.args.files l.args.holders.now (rows l) ≡ shares_at (bs (goal.at.After-load_place-seen l).Start) l.args.place
+stands : (l : After-load_place-seen) → let s = (goal.at.After-load_place-seen l).Start in
+    shares_of s.args.h.params.d s.args.files s.args.holders.now (rows l) ≡ shares_at (bs s) s.args.place
 stands l =
-    arrays (bs (goal.at.After-load_place-seen l).Start) l.args.h l.requires.1 l.args.files l.requires.2 l.args.holders.now (rows l) l.requires.4
-    ∙ loaded (bs (goal.at.After-load_place-seen l).Start) l.args.h l.requires.1 l.args.files l.requires.2 (words (goal.at.After-load_place-seen l).Start) (long (goal.at.After-load_place-seen l).Start) (rows l) (rest (goal.at.After-load_place-seen l).Start) l.load_place-seen.ensures.1
+    let s = (goal.at.After-load_place-seen l).Start in
+    arrays (bs s) s.args.h s.requires.1 s.args.files s.requires.2 s.args.holders.now (rows l) s.requires.4
+    ∙ loaded (bs s) s.args.h s.requires.1 s.args.files s.requires.2 (words s) (long s) (rows l) (rest s) l.load_place-seen.ensures.1
 
 pub decode_files-requires : goal.decode_files-requires
 decode_files-requires c =
-    let h = c.args.h in
-    let r = c.load-place in (
-      c.requires.0,
-      c.requires.1,
-      c.requires.2,
-      c.requires.4,
-      loaded-sized (bs (goal.at.decode_files-requires c).Start) h c.requires.1 c.args.files c.requires.2 (words (goal.at.decode_files-requires c).Start) (long (goal.at.decode_files-requires c).Start) (rows (goal.at.decode_files-requires c).After-load_place-arg-1) (rest (goal.at.decode_files-requires c).Start) r.ensures.1,
-      λ x. loaded-width (bs (goal.at.decode_files-requires c).Start) h c.requires.1 c.args.files c.requires.2 (words (goal.at.decode_files-requires c).Start) (long (goal.at.decode_files-requires c).Start) (rows (goal.at.decode_files-requires c).After-load_place-arg-1) (rest (goal.at.decode_files-requires c).Start) r.ensures.1
-          (λ f. place-width (bs (goal.at.decode_files-requires c).Start) c.args.place f (sym r.ensures.0 ∙ sym c.in_width.ensures ∙ x)),
-      loaded-length (bs (goal.at.decode_files-requires c).Start) h c.requires.1 c.args.files c.requires.2 _ (rows (goal.at.decode_files-requires c).After-load_place-arg-1) c.args.shares.now c.requires.0 c.requires.5 r.ensures.1,
-      c.requires.6,
+    let l = (goal.at.decode_files-requires c).After-load_place-arg-1 in
+    let s = (goal.at.After-load_place-arg-1 l).Start in
+    let h = s.args.h in
+    let r = l.load-place in (
+      s.requires.0,
+      s.requires.1,
+      s.requires.2,
+      s.requires.4,
+      loaded-sized (bs s) h s.requires.1 s.args.files s.requires.2 (words s) (long s) (rows l) (rest s) r.ensures.1,
+      λ x. loaded-width (bs s) h s.requires.1 s.args.files s.requires.2 (words s) (long s) (rows l) (rest s) r.ensures.1
+          (λ f. place-width (bs s) s.args.place f (sym r.ensures.0 ∙ sym c.in_width.ensures ∙ x)),
+      loaded-length (bs s) h s.requires.1 s.args.files s.requires.2 _ (rows l) s.args.shares.now s.requires.0 s.requires.5 r.ensures.1,
+      s.requires.6,
     )
 
 pub returns : goal.returns
 unfolding place_opening
 returns c =
-    let h = c.args.h in
+    let l = (goal.at.returns c).After-load_place-arg-1 in
+    let s = (goal.at.After-load_place-arg-1 l).Start in
+    let h = s.args.h in
     let d = c.decode_files.ensures in
-    let same = loaded (bs (goal.at.returns c).Start) h c.requires.1 c.args.files c.requires.2 (words (goal.at.returns c).Start) (long (goal.at.returns c).Start) (rows (goal.at.returns c).After-load_place-arg-1) (rest (goal.at.returns c).Start) c.load-place.ensures.1 in
-    let o = ap (answer_to (params_of (bs (goal.at.returns c).Start)) (allowance_of (bs (goal.at.returns c).Start))) same in
-    (d.0 ∙ o, (d.1.0 ∙ ap₂ (wrong_of h.params.k h.params.d) same o, (stands (goal.at.returns c).After-load_place-arg-1, d.1.1)))
+    let same = loaded (bs s) h s.requires.1 s.args.files s.requires.2 (words s) (long s) (rows l) (rest s) l.load-place.ensures.1 in
+    let o = ap (answer_to (params_of (bs s)) (allowance_of (bs s))) same in
+    (d.0 ∙ o, (d.1.0 ∙ ap₂ (wrong_of h.params.k h.params.d) same o, (stands l, d.1.1)))

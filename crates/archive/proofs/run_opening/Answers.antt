@@ -36,38 +36,46 @@ abbrev rows : After-load_run-seen → Rows
 rows c = c.load_run-seen.new.shares
 
 -- the shares that it leaves
-stands : (l : After-load_run-seen) → shares_of l.args.h.params.d l.args.files l.args.holders.now (rows l) ≡ shares_over (bs (goal.at.After-load_run-seen l).Start) l.args.a (l.args.b - l.args.a)
+stands : (l : After-load_run-seen) → let s = (goal.at.After-load_run-seen l).Start in
+    shares_of s.args.h.params.d s.args.files s.args.holders.now (rows l) ≡ shares_over (bs s) s.args.a (s.args.b - s.args.a)
 stands l =
-    arrays (bs (goal.at.After-load_run-seen l).Start) l.args.h l.requires.1 l.args.files l.requires.2 l.args.holders.now (rows l) l.requires.5
-    ∙ loaded (bs (goal.at.After-load_run-seen l).Start) l.args.h l.requires.1 l.args.files l.requires.2 (words (goal.at.After-load_run-seen l).Start) (long (goal.at.After-load_run-seen l).Start) (rows l) (rest (goal.at.After-load_run-seen l).Start) l.load_run-seen.ensures.1
+    let s = (goal.at.After-load_run-seen l).Start in
+    arrays (bs s) s.args.h s.requires.1 s.args.files s.requires.2 s.args.holders.now (rows l) s.requires.5
+    ∙ loaded (bs s) s.args.h s.requires.1 s.args.files s.requires.2 (words s) (long s) (rows l) (rest s) l.load_run-seen.ensures.1
 
 pub returns-then-not-in_width : goal.returns-then-not-in_width
 returns-then-not-in_width c =
-    let z = run-declines (bs (goal.at.returns-then-not-in_width c).Start) c.args.a (c.args.b - c.args.a)
-    (sym c.load_run-seen.ensures.0 ∙ sym c.in_width.ensures ∙ not-true _ c.if-not-in_width.true) in
-    rw z (refl, (refl, (stands (goal.at.returns-then-not-in_width c).After-load_run-seen, c.requires.7)))
+    let l = (goal.at.returns-then-not-in_width c).After-load_run-seen in
+    let s = (goal.at.After-load_run-seen l).Start in
+    let z = run-declines (bs s) s.args.a (s.args.b - s.args.a)
+    (sym l.load_run-seen.ensures.0 ∙ sym c.in_width.ensures ∙ not-true _ c.if-not-in_width.true) in
+    rw z (refl, (refl, (stands l, s.requires.7)))
 
 pub decode_files-requires : goal.decode_files-requires
 decode_files-requires c =
-    let h = c.args.h in
-    let r = c.load-run in (
-      c.requires.0,
-      c.requires.1,
-      c.requires.2,
-      c.requires.5,
-      loaded-sized (bs (goal.at.decode_files-requires c).Start) h c.requires.1 c.args.files c.requires.2 (words (goal.at.decode_files-requires c).Start) (long (goal.at.decode_files-requires c).Start) (rows (goal.at.decode_files-requires c).After-load_run-arg-1) (rest (goal.at.decode_files-requires c).Start) r.ensures.1,
-      λ x. loaded-width (bs (goal.at.decode_files-requires c).Start) h c.requires.1 c.args.files c.requires.2 (words (goal.at.decode_files-requires c).Start) (long (goal.at.decode_files-requires c).Start) (rows (goal.at.decode_files-requires c).After-load_run-arg-1) (rest (goal.at.decode_files-requires c).Start) r.ensures.1
-          (λ f u. total-element (bs (goal.at.decode_files-requires c).Start) f c.args.a (c.args.b - c.args.a)),
-      loaded-length (bs (goal.at.decode_files-requires c).Start) h c.requires.1 c.args.files c.requires.2 _ (rows (goal.at.decode_files-requires c).After-load_run-arg-1) c.args.shares.now c.requires.0 c.requires.6 r.ensures.1,
-      c.requires.7,
+    let l = (goal.at.decode_files-requires c).After-load_run-arg-1 in
+    let s = (goal.at.After-load_run-arg-1 l).Start in
+    let h = s.args.h in
+    let r = l.load-run in (
+      s.requires.0,
+      s.requires.1,
+      s.requires.2,
+      s.requires.5,
+      loaded-sized (bs s) h s.requires.1 s.args.files s.requires.2 (words s) (long s) (rows l) (rest s) r.ensures.1,
+      λ x. loaded-width (bs s) h s.requires.1 s.args.files s.requires.2 (words s) (long s) (rows l) (rest s) r.ensures.1
+          (λ f u. total-element (bs s) f s.args.a (s.args.b - s.args.a)),
+      loaded-length (bs s) h s.requires.1 s.args.files s.requires.2 _ (rows l) s.args.shares.now s.requires.0 s.requires.6 r.ensures.1,
+      s.requires.7,
     )
 
 pub returns : goal.returns
 returns c =
-    let h = c.args.h in
+    let l = (goal.at.returns c).After-load_run-arg-1 in
+    let s = (goal.at.After-load_run-arg-1 l).Start in
+    let h = s.args.h in
     let d = c.decode_files.ensures in
-    let same = loaded (bs (goal.at.returns c).Start) h c.requires.1 c.args.files c.requires.2 (words (goal.at.returns c).Start) (long (goal.at.returns c).Start) (rows (goal.at.returns c).After-load_run-arg-1) (rest (goal.at.returns c).Start) c.load-run.ensures.1 in
-    let o = ap (answer_to (params_of (bs (goal.at.returns c).Start)) (allowance_of (bs (goal.at.returns c).Start))) same
-    ∙ sym (run-answers (bs (goal.at.returns c).Start) c.args.a (c.args.b - c.args.a)
-    (sym c.load-run.ensures.0 ∙ sym c.in_width.ensures ∙ not-false _ c.if1.false)) in
-    (d.0 ∙ o, (d.1.0 ∙ ap₂ (wrong_of h.params.k h.params.d) same o, (stands (goal.at.returns c).After-load_run-arg-1, d.1.1)))
+    let same = loaded (bs s) h s.requires.1 s.args.files s.requires.2 (words s) (long s) (rows l) (rest s) l.load-run.ensures.1 in
+    let o = ap (answer_to (params_of (bs s)) (allowance_of (bs s))) same
+    ∙ sym (run-answers (bs s) s.args.a (s.args.b - s.args.a)
+    (sym l.load-run.ensures.0 ∙ sym c.in_width.ensures ∙ not-false _ c.if1.false)) in
+    (d.0 ∙ o, (d.1.0 ∙ ap₂ (wrong_of h.params.k h.params.d) same o, (stands l, d.1.1)))

@@ -23,7 +23,8 @@ known : (c : Else-fault-ne0) → Clear c.args.p c.args.a.now c.args.b.now (lengt
 known c = clear c.args.p c.args.a.now c.args.b.now (length c.args.out.now) (no_fault c)
 
 pub returns-then-fault-ne0 : goal.returns-then-fault-ne0
-returns-then-fault-ne0 c = declined (F (goal.at.returns-then-fault-ne0 c).Start) c.args.out.now _ _ c.operands_fault-fault.ensures c.if-fault-ne0.true
+returns-then-fault-ne0 c = let s = (goal.at.returns-then-fault-ne0 c).Start in
+    declined (F s) s.args.out.now _ _ c.operands_fault-fault.ensures c.if-fault-ne0.true
 
 pub load-x-requires : goal.load-x-requires
 load-x-requires c = let k = known c in ((k.range.d-low, k.range.d-high), omega arith)
@@ -38,14 +39,16 @@ pub store-requires : goal.store-requires
 store-requires c = let k = known (goal.at.store-requires c).Else-fault-ne0 in ((k.range.d-low, k.range.d-high), omega arith)
 
 pub returns : goal.returns
-returns c = let k = known (goal.at.returns c).Else-fault-ne0 in
-    let d = c.args.p.d in
-    let x = c.args.a.now in
-    let y = c.args.b.now in
-    let w = sum c.args.p.k x y in
+returns c = let e = (goal.at.returns c).Else-fault-ne0 in
+    let s = (goal.at.Else-fault-ne0 e).Start in
+    let k = known e in
+    let d = s.args.p.d in
+    let x = s.args.a.now in
+    let y = s.args.b.now in
+    let w = sum s.args.p.k x y in
     let v : c.sum.result ≡ held d w =
     c.sum.ensures
     ∙ rw (c.load-x.ensures, c.load-y.ensures)
-    (sum-held c.args.p.k d x y k.a-length k.b-length k.range.d-high) in
-    let hw : length w ≡ d = length-zip (add_w c.args.p.k) x y (k.a-length ∙ sym k.b-length) ∙ k.b-length in
-    wrote (F (goal.at.returns c).Start) c.args.out.now w d _ _ (no_fault (goal.at.returns c).Else-fault-ne0) k.out-length hw v c.store.ensures
+    (sum-held s.args.p.k d x y k.a-length k.b-length k.range.d-high) in
+    let hw : length w ≡ d = length-zip (add_w s.args.p.k) x y (k.a-length ∙ sym k.b-length) ∙ k.b-length in
+    wrote (F s) s.args.out.now w d _ _ (no_fault e) k.out-length hw v c.store.ensures

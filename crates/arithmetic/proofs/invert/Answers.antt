@@ -22,8 +22,9 @@ known : (c : Else-fault-ne0) → Clear c.args.p c.args.a.now c.args.a.now (lengt
 known c = clear c.args.p c.args.a.now c.args.a.now (length c.args.out.now) (sym c.operands_fault-fault.ensures ∙ c.if-fault-ne0.false)
 
 pub returns-then-fault-ne0 : goal.returns-then-fault-ne0
-returns-then-fault-ne0 c = let e = c.operands_fault-fault.ensures ∙ one-operand c.args.p c.args.a.now (length c.args.out.now) in
-    declined (F (goal.at.returns-then-fault-ne0 c).Start) c.args.out.now _ _ e c.if-fault-ne0.true
+returns-then-fault-ne0 c = let s = (goal.at.returns-then-fault-ne0 c).Start in
+    let e = c.operands_fault-fault.ensures ∙ one-operand s.args.p s.args.a.now (length s.args.out.now) in
+    declined (F s) s.args.out.now _ _ e c.if-fault-ne0.true
 
 pub load-x-requires : goal.load-x-requires
 load-x-requires c = let k = known c in ((k.range.d-low, k.range.d-high), omega arith)
@@ -36,11 +37,13 @@ pub store-requires : goal.store-requires
 store-requires c = let k = known (goal.at.store-requires c).Else-fault-ne0 in ((k.range.d-low, k.range.d-high), omega arith)
 
 pub returns : goal.returns
-returns c = let k = known (goal.at.returns c).Else-fault-ne0 in
-    let d = c.args.p.d in
-    let x = c.args.a.now in
-    let w = inverse c.args.p.k d x in
+returns c = let e = (goal.at.returns c).Else-fault-ne0 in
+    let s = (goal.at.Else-fault-ne0 e).Start in
+    let k = known e in
+    let d = s.args.p.d in
+    let x = s.args.a.now in
+    let w = inverse s.args.p.k d x in
     let v : c.inverse_of.result ≡ held d w =
     c.inverse_of.ensures
     ∙ rw (c.load-x.ensures, held-take d x k.a-length) in
-    wrote (F (goal.at.returns c).Start) c.args.out.now w d _ _ (no_fault (goal.at.returns c).Else-fault-ne0) k.out-length (length-inverse c.args.p.k d x) v c.store.ensures
+    wrote (F s) s.args.out.now w d _ _ (no_fault e) k.out-length (length-inverse s.args.p.k d x) v c.store.ensures

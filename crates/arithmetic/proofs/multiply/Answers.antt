@@ -20,7 +20,8 @@ known : (c : Else-fault-ne0) → Clear c.args.p c.args.a.now c.args.b.now (lengt
 known c = clear c.args.p c.args.a.now c.args.b.now (length c.args.out.now) (no_fault c)
 
 pub returns-then-fault-ne0 : goal.returns-then-fault-ne0
-returns-then-fault-ne0 c = declined (F (goal.at.returns-then-fault-ne0 c).Start) c.args.out.now _ _ c.operands_fault-fault.ensures c.if-fault-ne0.true
+returns-then-fault-ne0 c = let s = (goal.at.returns-then-fault-ne0 c).Start in
+    declined (F s) s.args.out.now _ _ c.operands_fault-fault.ensures c.if-fault-ne0.true
 
 pub store_product-requires : goal.store_product-requires
 store_product-requires c = let k = known (goal.at.store_product-requires c).Else-fault-ne0 in
@@ -28,5 +29,6 @@ store_product-requires c = let k = known (goal.at.store_product-requires c).Else
     ((r.k-low, r.k-high), (r.d-low, r.d-high), omega arith, omega arith, omega arith)
 
 pub returns : goal.returns
-returns c = let z = no_fault (goal.at.returns c).Else-fault-ne0 in
-    (sym z, c.store_product.ensures ∙ sym (kept-none (F (goal.at.returns c).Start) _ _ z))
+returns c = let e = (goal.at.returns c).Else-fault-ne0 in
+    let z = no_fault e in
+    (sym z, c.store_product.ensures ∙ sym (kept-none (F (goal.at.Else-fault-ne0 e).Start) _ _ z))

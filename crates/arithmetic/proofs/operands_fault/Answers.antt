@@ -39,10 +39,12 @@ told c =
 
 pub returns-then-fault-ne0 : goal.returns-then-fault-ne0
 returns-then-fault-ne0 c =
+    let s = (goal.at.returns-then-fault-ne0 c).Start in
     let e = told (goal.at.returns-then-fault-ne0 c).After-first-fault in
-    e ∙ sym (split (goal.at.returns-then-fault-ne0 c).Start ∙ first_some _ (widths (goal.at.returns-then-fault-ne0 c).Start) (λ z. c.if-fault-ne0.true (e ∙ z)))
+    e ∙ sym (split s ∙ first_some _ (widths s) (λ z. c.if-fault-ne0.true (e ∙ z)))
 
 pub returns : goal.returns
 returns c =
+    let s = (goal.at.returns c).Start in
     c.first-2.ensures ∙ ap₂ first c.width_fault.ensures c.width_fault-2.ensures
-    ∙ sym (split (goal.at.returns c).Start ∙ first-none _ (widths (goal.at.returns c).Start) (sym (told (goal.at.returns c).After-first-fault) ∙ c.if-fault-ne0.false))
+    ∙ sym (split s ∙ first-none _ (widths s) (sym (told (goal.at.returns c).After-first-fault) ∙ c.if-fault-ne0.false))

@@ -19,44 +19,51 @@ abbrev bs : Start → List ℕ
 bs s = s.args.bytes.now
 
 pub returns-then-bytes-start : goal.returns-then-bytes-start
-returns-then-bytes-start c = (λ _. sym (files-empty (bs (goal.at.returns-then-bytes-start c).Start) c.args.start c.if-bytes-start.true), λ z _. sym (one-empty (bs (goal.at.returns-then-bytes-start c).Start) (omega (arith, c.if-bytes-start.true))))
+returns-then-bytes-start c =
+    let s = (goal.at.returns-then-bytes-start c).Start in
+    (λ _. sym (files-empty (bs s) s.args.start c.if-bytes-start.true), λ z _. sym (one-empty (bs s) (omega (arith, c.if-bytes-start.true))))
 
 pub loop-at-init : goal.loop-at-init
-loop-at-init c = (0, (files-start (bs (goal.at.loop-at-init c).Start) c.args.start (omega (arith, c.if-bytes-start.false)), omega arith))
+loop-at-init c =
+    let s = (goal.at.loop-at-init c).Start in
+    (0, (files-start (bs s) s.args.start (omega (arith, c.if-bytes-start.false)), omega arith))
 
 -- what stands after as many files as may is a fault: not where all the bytes may be files, since a file is not empty
 pub returns-then-left-eq0 : goal.returns-then-left-eq0
 returns-then-left-eq0 c =
     let l = c.loop-at in
-    let start = c.args.start in
+    let s = (goal.at.returns-then-left-eq0 c).Start in
+    let start = s.args.start in
     let f = l.invariant.0 in
     let j = l.invariant.1.0 in
     let n = l.invariant.1.1 in
     let t = c.loop-at-test.true in (
-      λ m. absurd (omega (arith, m, n, t, c.if-left-eq0.true, place-low (bs (goal.at.returns-then-left-eq0 c).Start) start f, j.at-is)),
+      λ m. absurd (omega (arith, m, n, t, c.if-left-eq0.true, place-low (bs s) start f, j.at-is)),
       λ z m.
           let g : f ≡ 1 = omega (arith, m, n, c.if-left-eq0.true) in
-          sym (one-over (bs (goal.at.returns-then-left-eq0 c).Start) l.at l.prev (rw (z, g) at j) (omega (arith, t)) t),
+          sym (one-over (bs s) l.at l.prev (rw (z, g) at j) (omega (arith, t)) t),
     )
 
 pub file_fault-fault-requires : goal.file_fault-fault-requires
 file_fault-fault-requires c =
     let l = c.loop-at in
-    omega (arith, place-start (bs (goal.at.file_fault-fault-requires c).Start) c.args.start l.invariant.0, l.invariant.1.0.at-is, l.invariant.1.0.within)
+    let s = (goal.at.file_fault-fault-requires c).Start in
+    omega (arith, place-start (bs s) s.args.start l.invariant.0, l.invariant.1.0.at-is, l.invariant.1.0.within)
 
 pub returns-then-fault-ne0 : goal.returns-then-fault-ne0
 returns-then-fault-ne0 c =
     let l = c.loop-at in
-    let start = c.args.start in
+    let s = (goal.at.returns-then-fault-ne0 c).Start in
+    let start = s.args.start in
     let f = l.invariant.0 in
     let j = l.invariant.1.0 in
     let e = c.file_fault-fault.ensures in (
-      λ _. e ∙ sym (files-some (bs (goal.at.returns-then-fault-ne0 c).Start) start (omega (arith, c.if-bytes-start.false))
-          ∙ files-stop (bs (goal.at.returns-then-fault-ne0 c).Start) start f l.at l.prev j c.loop-at-test.true (λ z. c.if-fault-ne0.true (e ∙ z))),
+      λ _. e ∙ sym (files-some (bs s) start (omega (arith, c.if-bytes-start.false))
+          ∙ files-stop (bs s) start f l.at l.prev j c.loop-at-test.true (λ z. c.if-fault-ne0.true (e ∙ z))),
       λ z m.
           let g : f ≡ 0 = omega (arith, m, l.invariant.1.1, c.if-left-eq0.false) in
           let e₀ = rw z at e in
-          e₀ ∙ sym (one-stop (bs (goal.at.returns-then-fault-ne0 c).Start) l.at l.prev (rw (z, g) at j) (λ y. c.if-fault-ne0.true (e₀ ∙ y))),
+          e₀ ∙ sym (one-stop (bs s) l.at l.prev (rw (z, g) at j) (λ y. c.if-fault-ne0.true (e₀ ∙ y))),
     )
 
 no_fault : (c : Else-fault-ne0 → let l = c.before.before.before.before.loop in
@@ -84,7 +91,8 @@ size_fits c = rw (size_is c) (file (goal.at.After-file_size-at c).Else-fault-ne0
 
 size_low : (c : After-file_size-at → 7 ≤ c.file-size.result
 size_low c =
-    let h = heading_of (bs (goal.at.After-file_size-at c).Start) c.loop-at.at in
+    let e = (goal.at.After-file_size-at c).Else-fault-ne0 in
+    let h = heading_of (bs (goal.at.Else-fault-ne0 e).Start) e.loop-at.at in
     omega (arith, size_is c, head-low h, file-low h)
 
 pub overflow_add-at : goal.overflow_add-at
@@ -99,11 +107,11 @@ loop-at-smaller c = omega (arith, size_low c, size_fits c)
 pub loop-at-preserved : goal.loop-at-preserved
 loop-at-preserved c =
     let l = c.loop-at in
-    (
+    let s = (goal.at.loop-at-preserved c).Start in (
       l.invariant.0 + 1,
       (
         rw (size_is c, c.heading_at-h.ensures)
-            (files-next (bs (goal.at.loop-at-preserved c).Start) c.args.start l.invariant.0 l.at l.prev l.invariant.1.0
+            (files-next (bs s) s.args.start l.invariant.0 l.at l.prev l.invariant.1.0
             c.loop-at-test.true (no_fault (goal.at.loop-at-preserved c).Else-fault-ne0)),
         omega (arith, l.invariant.1.1, c.if-left-eq0.false),
       ),
@@ -112,12 +120,13 @@ loop-at-preserved c =
 pub returns : goal.returns
 returns c =
     let l = c.loop-at in
-    let start = c.args.start in
+    let s = (goal.at.returns c).Start in
+    let start = s.args.start in
     let f = l.invariant.0 in
     let j = l.invariant.1.0 in
-    let some : start < length (bs (goal.at.returns c).Start) = omega (arith, c.if-bytes-start.false) in (
-      λ _. sym (files-some (bs (goal.at.returns c).Start) start some ∙ files-none (bs (goal.at.returns c).Start) start f l.at l.prev j c.loop-at-test.false),
+    let some : start < length (bs s) = omega (arith, c.if-bytes-start.false) in (
+      λ _. sym (files-some (bs s) start some ∙ files-none (bs s) start f l.at l.prev j c.loop-at-test.false),
       λ z m.
-          let g : f ≡ 1 = omega (arith, m, l.invariant.1.1, files-passed (bs (goal.at.returns c).Start) start f l.at l.prev j (omega (arith, some, c.loop-at-test.false))) in
-          sym (one-whole (bs (goal.at.returns c).Start) l.at l.prev (rw (z, g) at j) (omega (arith, some)) c.loop-at-test.false),
+          let g : f ≡ 1 = omega (arith, m, l.invariant.1.1, files-passed (bs s) start f l.at l.prev j (omega (arith, some, c.loop-at-test.false))) in
+          sym (one-whole (bs s) l.at l.prev (rw (z, g) at j) (omega (arith, some)) c.loop-at-test.false),
     )

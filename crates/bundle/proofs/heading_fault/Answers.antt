@@ -16,7 +16,7 @@ use Rattle.records.proofs.Lengths.{known-heading}
 use Rattle.records.proofs.Record.{framed-frame}
 use Rattle.bundle.proofs.Headings.{heading-7, heading-rest}
 use Rattle.bundle.proofs.heading_fault.Goals as goal
-use Rattle.bundle.proofs.heading_fault.Goals.{After-is_record, Else-not-is_record, Start}
+use Rattle.bundle.proofs.heading_fault.Goals.{After-heading_at, After-is_record, After-ranges_ok, Else-not-is_record, Start}
 
 abbrev bs : Start → List ℕ
 bs s = s.args.bytes.now
@@ -58,11 +58,14 @@ heading_at-requires c = omega (arith, fits (goal.at.heading_at-requires c).Else-
 
 pub returns : goal.returns
 returns c =
-    let h-is = c.heading_at-h.ensures in
+    let b = (goal.at.returns c).After-heading_at in
+    let x = (goal.at.After-heading_at b).After-ranges_ok in
+    let s = (goal.at.After-ranges_ok x).Start in
+    let h-is = x.heading_at-h.ensures in
     c.first-2.ensures
-    ∙ ap₂ first (c.unless-ranges.ensures ∙ ap (λ t. unless t 1) (c.ranges_ok.ensures ∙ ap ranges_ok h-is))
+    ∙ ap₂ first (b.unless-ranges.ensures ∙ ap (λ t. unless t 1) (x.ranges_ok.ensures ∙ ap ranges_ok h-is))
     (c.first.ensures
-    ∙ ap₂ first (c.unless-holder.ensures ∙ ap (λ t. unless t 4) (c.holder_ok.ensures ∙ ap (holder_ok c.args.prev) h-is))
-    (c.unless-same.ensures ∙ ap (λ t. unless t 8) (c.belong.ensures ∙ ap₂ belongs c.heading_at.ensures
+    ∙ ap₂ first (b.unless-holder.ensures ∙ ap (λ t. unless t 4) (b.holder_ok.ensures ∙ ap (holder_ok s.args.prev) h-is))
+    (c.unless-same.ensures ∙ ap (λ t. unless t 8) (c.belong.ensures ∙ ap₂ belongs b.heading_at.ensures
     h-is)))
-    ∙ sym (heading-rest (bs (goal.at.returns c).Start) c.args.base c.args.prev c.args.at (framed-yes (goal.at.returns c).Else-not-is_record))
+    ∙ sym (heading-rest (bs s) s.args.base s.args.prev s.args.at (framed-yes (goal.at.After-ranges_ok x).Else-not-is_record))

@@ -71,8 +71,9 @@ word_at-requires c = omega (arith, fits (goal.at.word_at-requires c).Else-not-is
 pub returns : goal.returns
 unfolding num_of
 returns c =
-    let a = c.args in
+    let s = (goal.at.returns c).Start in
+    let a = s.args in
     c.unless.ensures
     ∙ ap₂ (λ (x y : ℕ). unless (eqb x y) 8) c.word_at.ensures (num-is (goal.at.returns c).After-word_at-num)
-    ∙ sym (job-8 (bs (goal.at.returns c).Start) a.len a.base a.prev a.p a.at (framed-yes (goal.at.returns c).Else-not-is_record)
+    ∙ sym (job-8 (bs s) a.len a.base a.prev a.p a.at (framed-yes (goal.at.returns c).Else-not-is_record)
     (rises-is (goal.at.returns c).After-rises ∙ not-false _ c.if-not-rises.false))

@@ -8,6 +8,6 @@ use Rattle.comparison.proofs.gap.Goals as goal
 
 pub returns : goal.returns
 returns c =
-    let ha : length c.args.t1 ≡ 6 = omega (arith, c.well_formed) in
-    let hv : length c.args.t2 ≡ 6 = omega (arith, c.well_formed) in
-    gap-six c.args.t1 c.args.t2 ha hv
+    let ha : length c.args.share ≡ 6 = omega (arith, c.well_formed) in
+    let hv : length c.args.value ≡ 6 = omega (arith, c.well_formed) in
+    gap-six c.args.share c.args.value ha hv

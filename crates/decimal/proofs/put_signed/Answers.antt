@@ -5,15 +5,19 @@ use Rattle.decimal.specs.Decimal.{decimal, sign, signed_text}
 use Rattle.decimal.proofs.Written.{wrote-more}
 use Rattle.decimal.proofs.Signed.{signed-size}
 use Rattle.decimal.proofs.put_signed.Goals as goal
+use Rattle.decimal.proofs.put_signed.Goals.{After-put_sign-p}
 
 pub put_sign-p-requires : goal.put_sign-p-requires
 put_sign-p-requires c = omega (arith, c.requires, signed-size c.args.s)
 
 pub put_decimal-requires : goal.put_decimal-requires
-put_decimal-requires c = omega (arith, c.requires, signed-size c.args.s, c.put_sign-p.ensures.1, c.put_sign-p.auto.0)
+put_decimal-requires c =
+    let p = (goal.at.put_decimal-requires c).After-put_sign-p in
+    omega (arith, p.requires, signed-size p.args.s, p.put_sign-p.ensures.1, p.put_sign-p.auto.out)
 
 pub returns : goal.returns
 unfolding signed_text
 returns c =
-    wrote-more c.args.out.now (sign c.args.s.negative) (decimal c.args.s.magnitude) c.args.at
-    (omega (arith, c.requires, signed-size c.args.s)) c.put_sign-p.ensures c.put_decimal.ensures
+    let p = (goal.at.returns c).After-put_sign-p in
+    wrote-more p.args.out.now (sign p.args.s.negative) (decimal p.args.s.magnitude) p.args.at
+    (omega (arith, p.requires, signed-size p.args.s)) p.put_sign-p.ensures c.put_decimal.ensures

@@ -8,9 +8,7 @@ use lib.ListN.{length, replicate, length-replicate, get_or-replicate, length-set
 use lib.Seq.{paste, paste-zero}
 use Rattle.words.proofs.Fill.{fill-next, fill-all}
 use Rattle.decoder.proofs.clear_positions.Goals as goal
-
-abbrev nones : List ℕ
-nones = replicate 64 255
+use Rattle.decoder.proofs.clear_positions.Invariants.{nones}
 
 pub loop-i-init : goal.loop-i-init
 loop-i-init c = (omega arith, c.requires, paste-zero c.args.lowest.now 0 nones)

@@ -9,6 +9,9 @@ use lib.Seq.{paste, paste-zero}
 use Rattle.words.proofs.Fill.{fill-next, fill-all}
 use Rattle.decoder.proofs.clear_positions.Given as goal
 
+abbrev pub nones : List ℕ
+nones = replicate 64 255
+
 abbrev pub invariant-loop-i : goal.invariant-loop-i
 invariant-loop-i l = (l.i ≤ 64) × (length l.lowest ≡ 64) × (l.lowest ≡ paste l.initial.lowest 0 nones l.i)
 

@@ -25,34 +25,40 @@ range l h =
     (l.requires.3 l.loop-i.i h)
 
 pub overflow_sub-j : goal.overflow_sub-j
-overflow_sub-j c = (range (goal.at.overflow_sub-j c).In-loop-i (omega arith)).0
+overflow_sub-j c =
+    let l = (goal.at.overflow_sub-j c).In-loop-i in
+    (range l (omega arith)).0
 
 pub overflow_shr-j : goal.overflow_shr-j
-overflow_shr-j c = omega (arith, (range (goal.at.overflow_shr-j c).In-loop-i (omega arith)).1)
+overflow_shr-j c =
+    let l = (goal.at.overflow_shr-j c).In-loop-i in
+    omega (arith, (range l (omega arith)).1)
 
 pub loop-i-preserved : goal.loop-i-preserved
 loop-i-preserved c =
-    let a = c.args in
-    let hs = c.loop-i.hs in
-    let ys = c.loop-i.ys in
-    let i = c.loop-i.i in
-    let j = c.loop-i.j in
+    let l = (goal.at.loop-i-preserved c).In-loop-i in
+    let a = l.args in
+    let hs = l.loop-i.hs in
+    let ys = l.loop-i.ys in
+    let i = l.loop-i.i in
+    let j = l.loop-i.j in
     let h : i < a.m = omega arith in (
       omega arith,
       omega arith,
-      length-set hs j (get_or hs i 0) ∙ c.loop-i.invariant.2,
-      length-set ys j (get_or ys i []) ∙ c.loop-i.invariant.3,
-      λ d. drop-same d a.w a.hs.now a.ys.now a.m hs ys i h (c.loop-i.invariant.4 d) j c.loop-i.invariant.0,
-      λ d. drop-turn d a.w a.hs.now a.ys.now a.m hs ys i h (c.loop-i.invariant.4 d) j c.loop-i.invariant.0 (omega arith) (omega arith)
-          (without a.w (shares_of d a.m a.hs.now a.ys.now)) (c.loop-i.invariant.5 d),
+      length-set hs j (get_or hs i 0) ∙ l.loop-i.invariant.2,
+      length-set ys j (get_or ys i []) ∙ l.loop-i.invariant.3,
+      λ d. drop-same d a.w a.hs.now a.ys.now a.m hs ys i h (l.loop-i.invariant.4 d) j l.loop-i.invariant.0,
+      λ d. drop-turn d a.w a.hs.now a.ys.now a.m hs ys i h (l.loop-i.invariant.4 d) j l.loop-i.invariant.0 (omega arith) (omega arith)
+          (without a.w (shares_of d a.m a.hs.now a.ys.now)) (l.loop-i.invariant.5 d),
     )
 
 pub returns : goal.returns
 returns c =
-    let a = c.args in (
-      λ d. drop-end d a.w a.hs.now a.ys.now c.loop-i.i a.m (omega arith) (shares_of d c.loop-i.j c.loop-i.hs c.loop-i.ys)
-          (without a.w (shares_of d a.m a.hs.now a.ys.now)) (c.loop-i.invariant.5 d),
+    let l = (goal.at.returns c).At-loop-i in
+    let a = l.args in (
+      λ d. drop-end d a.w a.hs.now a.ys.now l.loop-i.i a.m (omega arith) (shares_of d l.loop-i.j l.loop-i.hs l.loop-i.ys)
+          (without a.w (shares_of d a.m a.hs.now a.ys.now)) (l.loop-i.invariant.5 d),
       omega arith,
-      c.loop-i.invariant.2,
-      c.loop-i.invariant.3,
+      l.loop-i.invariant.2,
+      l.loop-i.invariant.3,
     )

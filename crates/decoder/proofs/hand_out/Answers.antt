@@ -9,6 +9,7 @@ use Rattle.words.proofs.InRange.{ok-range}
 use Rattle.words.proofs.Refusal.{kept-none, kept-some}
 use borrow.Author.Rules.{rules}
 use Rattle.decoder.proofs.hand_out.Goals as goal
+use Rattle.decoder.proofs.hand_out.Goals.{After-lowest_bits, After-store}
 
 -- d words stored in an output of as many, and a word in an output of one
 over : (d : ℕ) (out e : List ℕ) → length out ≡ d → take 0 out ++ take d e ++ drop (0 + d) out ≡ take d e
@@ -42,14 +43,16 @@ lowest_bits-requires c =
 
 pub returns : goal.returns
 returns c =
-    let a = c.args in
-    let f = c.if-opened-ne0.false in (
+    let l = (goal.at.returns c).After-lowest_bits in
+    let t = (goal.at.After-lowest_bits l).After-store in
+    let a = t.args in
+    let f = t.if-opened-ne0.false in (
       sym f,
       (
-        c.store.ensures ∙ over a.p.d a.out.now (get_or a.rows.now 0 []) c.requires.4 ∙ sym (kept-none a.opened.fault a.out.now _ f),
+        t.store.ensures ∙ over a.p.d a.out.now (get_or a.rows.now 0 []) t.requires.4 ∙ sym (kept-none a.opened.fault a.out.now _ f),
         (
-          single a.wrong.now a.opened.wrong c.requires.5 ∙ sym (kept-none a.opened.fault a.wrong.now _ f),
-          c.lowest_bits.ensures ∙ sym (kept-none a.opened.fault a.lowest.now _ f),
+          single a.wrong.now a.opened.wrong t.requires.5 ∙ sym (kept-none a.opened.fault a.wrong.now _ f),
+          l.lowest_bits.ensures ∙ sym (kept-none a.opened.fault a.lowest.now _ f),
         ),
       ),
     )

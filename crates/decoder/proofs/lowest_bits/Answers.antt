@@ -13,7 +13,7 @@ use Rattle.level.specs.Shares.{shares_from, shares_of}
 use Rattle.level.proofs.Shares.{from_end}
 use Rattle.decoder.proofs.Positions.{ordered-holders, low-degree, positions-start, nobody, holder_in, put_in, left_out}
 use Rattle.decoder.proofs.lowest_bits.Goals as goal
-use Rattle.decoder.proofs.lowest_bits.Goals.{At-loop-i, In-loop-i, Start}
+use Rattle.decoder.proofs.lowest_bits.Goals.{After-clear_positions, At-loop-i, In-loop-i, Start}
 
 -- the polynomial and the shares
 abbrev poly : Start → Polynomial
@@ -45,17 +45,20 @@ named l h =
 
 pub returns-then-wrong-eq0 : goal.returns-then-wrong-eq0
 returns-then-wrong-eq0 c =
-    let a = c.args in
+    let s = (goal.at.returns-then-wrong-eq0 c).Start in
+    let a = s.args in
     c.clear_positions.ensures
-    ∙ nobody a.p.d (range (goal.at.returns-then-wrong-eq0 c).Start).d-high a.p.k (poly (goal.at.returns-then-wrong-eq0 c).Start) a.m a.holders.now a.shares.now (holders (goal.at.returns-then-wrong-eq0 c).Start) a.wrong c.requires.5 c.if-wrong-eq0.true
+    ∙ nobody a.p.d (range s).d-high a.p.k (poly s) a.m a.holders.now a.shares.now (holders s) a.wrong s.requires.5 c.if-wrong-eq0.true
 
 pub loop-i-init : goal.loop-i-init
 loop-i-init c =
-    let e = c.clear_positions.ensures in
-    let a = c.args in (
+    let f = (goal.at.loop-i-init c).After-clear_positions in
+    let e = f.clear_positions.ensures in
+    let s = (goal.at.After-clear_positions f).Start in
+    let a = s.args in (
       omega arith,
       ap length e ∙ length-replicate {A = ℕ} 64 255,
-      e ∙ positions-start a.p.d (range (goal.at.loop-i-init c).Start).d-high a.p.k (poly (goal.at.loop-i-init c).Start) a.m a.holders.now a.shares.now (holders (goal.at.loop-i-init c).Start) a.wrong c.requires.5,
+      e ∙ positions-start a.p.d (range s).d-high a.p.k (poly s) a.m a.holders.now a.shares.now (holders s) a.wrong s.requires.5,
     )
 
 pub overflow_sub-x : goal.overflow_sub-x
@@ -74,32 +77,37 @@ pub overflow_sub-lowest : goal.overflow_sub-lowest
 overflow_sub-lowest c = (named (goal.at.overflow_sub-lowest c).In-loop-i (omega arith)).0
 
 pub bounds-lowest-x : goal.bounds-lowest-x
-bounds-lowest-x c = omega (arith, named (goal.at.bounds-lowest-x c).In-loop-i (omega arith), c.loop-i.invariant.1)
+bounds-lowest-x c =
+    let l = (goal.at.bounds-lowest-x c).In-loop-i in
+    omega (arith, named l (omega arith), l.loop-i.invariant.1)
 
 pub loop-i-preserved-then-wrong-x-eq1 : goal.loop-i-preserved-then-wrong-x-eq1
 loop-i-preserved-then-wrong-x-eq1 c =
-    let s = S (goal.at.loop-i-preserved-then-wrong-x-eq1 c).In-loop-i in
+    let l = (goal.at.loop-i-preserved-then-wrong-x-eq1 c).In-loop-i in
+    let s = S l in
     let a = s.args in (
-      omega (arith, c.loop-i.invariant.0),
-      length-set c.loop-i.lowest _ _ ∙ c.loop-i.invariant.1,
-      put_in a.p.d (range s).d-high a.p.k (poly s) a.m a.holders.now a.shares.now (holders s) a.wrong s.pre.5 c.loop-i.i
-          (omega arith) c.loop-i.invariant.0 c.loop-i.lowest c.loop-i.invariant.2 c.position_of.result c.position_of.ensures,
+      omega (arith, l.loop-i.invariant.0),
+      length-set l.loop-i.lowest _ _ ∙ l.loop-i.invariant.1,
+      put_in a.p.d (range s).d-high a.p.k (poly s) a.m a.holders.now a.shares.now (holders s) a.wrong s.pre.5 l.loop-i.i
+          (omega arith) l.loop-i.invariant.0 l.loop-i.lowest l.loop-i.invariant.2 c.position_of.result c.position_of.ensures,
     )
 
 pub loop-i-preserved : goal.loop-i-preserved
 loop-i-preserved c =
-    let s = S (goal.at.loop-i-preserved c).In-loop-i in
+    let l = (goal.at.loop-i-preserved c).In-loop-i in
+    let s = S l in
     let a = s.args in (
-      omega (arith, c.loop-i.invariant.0),
-      c.loop-i.invariant.1,
-      c.loop-i.invariant.2
-          ∙ left_out a.p.d (range s).d-high a.p.k (poly s) a.m a.holders.now a.shares.now (holders s) a.wrong s.pre.5 c.loop-i.i
-          (omega arith) c.loop-i.invariant.0 c.if-wrong-x-eq1.false,
+      omega (arith, l.loop-i.invariant.0),
+      l.loop-i.invariant.1,
+      l.loop-i.invariant.2
+          ∙ left_out a.p.d (range s).d-high a.p.k (poly s) a.m a.holders.now a.shares.now (holders s) a.wrong s.pre.5 l.loop-i.i
+          (omega arith) l.loop-i.invariant.0 c.if-wrong-x-eq1.false,
     )
 
 pub returns : goal.returns
 returns c =
-    let s = S (goal.at.returns c).At-loop-i in
+    let l = (goal.at.returns c).At-loop-i in
+    let s = S l in
     let a = s.args in
-    let e : c.loop-i.i ≡ 0 = omega arith in
-    c.loop-i.invariant.2 ∙ ap (positions a.p.k a.p.d (poly s)) (from_end a.p.d a.holders.now a.shares.now c.loop-i.i a.m e)
+    let e : l.loop-i.i ≡ 0 = omega arith in
+    l.loop-i.invariant.2 ∙ ap (positions a.p.k a.p.d (poly s)) (from_end a.p.d a.holders.now a.shares.now l.loop-i.i a.m e)

@@ -75,9 +75,10 @@ level c got x =
 
 pub returns-in_default : goal.returns-in_default
 returns-in_default c =
-    let r = level (goal.at.returns-in_default c).After-round-got Nothing c.in_default.is in
-    let v = (head (goal.at.returns-in_default c).After-round-got).loop.invariant in
-    (r.0, (r.1, (c.round-got.ensures.shaped, (v.1, v.2))))
+    let g = (goal.at.returns-in_default c).After-round-got in
+    let r = level g Nothing c.in_default.is in
+    let v = (head g).loop.invariant in
+    (r.0, (r.1, (g.round-got.ensures.shaped, (v.1, v.2))))
 
 -- holders are named
 abbrev Named : Type 0
@@ -103,9 +104,10 @@ overflow_add-wrong c = omega (arith, (wrong-level c (all_named c) refl).0)
 
 pub returns-then-all : goal.returns-then-all
 returns-then-all c =
-    let r = (wrong-level (goal.at.returns-then-all c).In-Wrong true c.if-all.true).1 in
-    let v = (head (given (goal.at.returns-then-all c).In-Wrong)).loop.inv in
-    (r.0, (r.1, ((given (goal.at.returns-then-all c).In-Wrong).round.ensures.1.1, (v.1, v.2))))
+    let n = (goal.at.returns-then-all c).In-Wrong in
+    let r = (wrong-level n true c.if-all.true).1 in
+    let v = (head (given n)).loop.inv in
+    (r.0, (r.1, ((given n).round.ensures.1.1, (v.1, v.2))))
 
 -- some of them only
 jumped : (c : Else-all →
@@ -133,12 +135,13 @@ loop-w-smaller c = let j = jumped (goal.at.loop-w-smaller c).Else-all in omega (
 
 pub loop-w-preserved : goal.loop-w-preserved
 loop-w-preserved c =
-    let g = given (goal.at.loop-w-preserved c).In-Wrong in
+    let f = (goal.at.loop-w-preserved c).Else-all in
+    let g = given (goal.at.Else-all f).In-Wrong in
     let l = head g in
     let e = c.drop_wrong-count.ensures in (
       omega (arith, e.1, l.loop.inv.0),
       e.2,
       e.3,
-      rw (e.0 l.before.args.d) (jumped (goal.at.loop-w-preserved c).Else-all).next,
+      rw (e.0 l.before.args.d) (jumped f).next,
       g.round.ensures.1.1,
     )

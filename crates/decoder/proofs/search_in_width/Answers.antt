@@ -10,7 +10,7 @@ use Rattle.level.specs.Shares.{shares_of}
 use Rattle.level.proofs.Shares.{length_from}
 use Rattle.decoder.proofs.WideDropped.{few_ones, too_many, wide-left-out}
 use Rattle.decoder.proofs.search_in_width.Goals as goal
-use Rattle.decoder.proofs.search_in_width.Goals.{Start}
+use Rattle.decoder.proofs.search_in_width.Goals.{Else-e-errors, Start}
 
 -- all shares; there are enough
 abbrev whole : Start → List Share
@@ -21,30 +21,34 @@ enough s = let a = s.args in rw (length_from a.d a.hs.now a.ys.now 0 a.m) s.requ
 
 pub overflow_cast-errors : goal.overflow_cast-errors
 overflow_cast-errors c =
-    let a = c.args in
-    let p = c.requires in
+    let s = (goal.at.overflow_cast-errors c).Start in
+    let a = s.args in
+    let p = s.requires in
     omega (
       arith,
       length_from a.d a.hs.now a.ys.now 0 a.m,
       p.3,
-      few_ones a.d p.1.0 p.1.1 a.k a.t a.e (whole (goal.at.overflow_cast-errors c).Start) p.5 (enough (goal.at.overflow_cast-errors c).Start) c.wide_holders-wide.result c.wide_holders-wide.ensures,
+      few_ones a.d p.1.0 p.1.1 a.k a.t a.e (whole s) p.5 (enough s) c.wide_holders-wide.result c.wide_holders-wide.ensures,
     )
 
 pub returns-then-e-errors : goal.returns-then-e-errors
 returns-then-e-errors c =
-    let a = c.args in
-    let p = c.requires in
+    let s = (goal.at.returns-then-e-errors c).Start in
+    let a = s.args in
+    let p = s.requires in
     let w = c.wide_holders-wide in
-    rw (too_many a.d p.1.0 p.1.1 a.k a.t a.e (whole (goal.at.returns-then-e-errors c).Start) p.5 (enough (goal.at.returns-then-e-errors c).Start) w.result w.ensures c.if-e-errors.true)
+    rw (too_many a.d p.1.0 p.1.1 a.k a.t a.e (whole s) p.5 (enough s) w.result w.ensures c.if-e-errors.true)
     (refl, (refl, p.10))
 
 pub search_without-requires : goal.search_without-requires
 search_without-requires c =
-    let a = c.args in
-    let p = c.requires in
-    let w = c.wide_holders-wide in
-    let o = wide-left-out a.d p.1.0 p.1.1 a.k a.t a.e (whole (goal.at.search_without-requires c).Start) p.5 (enough (goal.at.search_without-requires c).Start) w.result w.ensures p.7
-    (omega (arith, c.if-e-errors.false)) in
+    let n = (goal.at.search_without-requires c).Else-e-errors in
+    let s = (goal.at.Else-e-errors n).Start in
+    let a = s.args in
+    let p = s.requires in
+    let w = n.wide_holders-wide in
+    let o = wide-left-out a.d p.1.0 p.1.1 a.k a.t a.e (whole s) p.5 (enough s) w.result w.ensures p.7
+    (omega (arith, n.if-e-errors.false)) in
     (p.0, p.1, p.2, p.3, p.5, p.6, o, p.8, p.9, p.10)
 
 pub returns : goal.returns

@@ -34,20 +34,23 @@ abbrev rows : After-round-got → Rows
 rows c = c.round-got.new.rows
 
 level : (c : After-round-got) (got : Found) → c.round-got.result ≡ got →
-    (let a = c.args in
-    Round a.k a.d a.t a.e (whole (goal.at.After-round-got c).Start) a.e 0 (whole (goal.at.After-round-got c).Start) (rows c) got)
+    (let s = (goal.at.After-round-got c).Start in
+    let a = s.args in
+    Round a.k a.d a.t a.e (whole s) a.e 0 (whole s) (rows c) got)
 level c got x =
-    let a = c.args in
-    let p = c.requires in
-    let b = start a.d p.1.0 p.1.1 a.k a.t a.e (whole (goal.at.After-round-got c).Start) p.5 p.6 p.7
+    let s = (goal.at.After-round-got c).Start in
+    let a = s.args in
+    let p = s.requires in
+    let b = start a.d p.1.0 p.1.1 a.k a.t a.e (whole s) p.5 p.6 p.7
     (rw (length_from a.d a.hs.now a.ys.now 0 a.m) p.4) in
-    round a.d p.1.0 p.1.1 a.k a.t a.e (whole (goal.at.After-round-got c).Start) a.e 0 (whole (goal.at.After-round-got c).Start) b (rows c)
-    (rw (first (goal.at.After-round-got c).Start) c.round-got.ensures.through) p.0.1 c.round-got.result got c.round-got.ensures.found x
+    round a.d p.1.0 p.1.1 a.k a.t a.e (whole s) a.e 0 (whole s) b (rows c)
+    (rw (first s) c.round-got.ensures.through) p.0.1 c.round-got.result got c.round-got.ensures.found x
 
 pub returns-in_default : goal.returns-in_default
 returns-in_default c =
-    let r = level (goal.at.returns-in_default c).After-round-got Nothing c.in_default.is in
-    (r.0, (r.1, c.round-got.ensures.shaped))
+    let g = (goal.at.returns-in_default c).After-round-got in
+    let r = level g Nothing c.in_default.is in
+    (r.0, (r.1, g.round-got.ensures.shaped))
 
 abbrev named : In-Wrong → ℕ
 named c = c.in-Wrong.w
@@ -56,18 +59,22 @@ abbrev all_named : In-Wrong → Bool
 all_named c = c.in-Wrong.all
 
 wrong-level : (c : In-Wrong) (all : Bool) → all_named c ≡ all →
-    (let a = c.args in
-    Round a.k a.d a.t a.e (whole (goal.at.In-Wrong c).Start) a.e 0 (whole (goal.at.In-Wrong c).Start) (rows (goal.at.In-Wrong c).After-round-got) (Wrong (named c) all))
+    (let s = (goal.at.In-Wrong c).Start in
+    let a = s.args in
+    Round a.k a.d a.t a.e (whole s) a.e 0 (whole s) (rows (goal.at.In-Wrong c).After-round-got) (Wrong (named c) all))
 wrong-level c all x = level (goal.at.In-Wrong c).After-round-got (Wrong (named c) all) (c.in-Wrong.is ∙ ap (Wrong (named c)) x)
 
 pub returns-then-all : goal.returns-then-all
 returns-then-all c =
-    let r = (wrong-level (goal.at.returns-then-all c).In-Wrong true c.if-all.true).1 in
-    (r.0, (rw (zero-add (named (goal.at.returns-then-all c).In-Wrong)) at r.1, c.round-got.ensures.shaped))
+    let n = (goal.at.returns-then-all c).In-Wrong in
+    let r = (wrong-level n true c.if-all.true).1 in
+    (r.0, (rw (zero-add (named n)) at r.1, n.round-got.ensures.shaped))
 
 pub search_without-requires : goal.search_without-requires
 search_without-requires c =
-    let a = c.args in
-    let p = c.requires in
-    let o = left_out a.d p.1.0 p.1.1 a.k a.t a.e (whole (goal.at.search_without-requires c).Start) (named (goal.at.search_without-requires c).In-Wrong) (wrong-level (goal.at.search_without-requires c).In-Wrong false c.if-all.false).1 in
-    (p.0, p.1, p.2, p.3, p.5, p.6, o, p.8, p.9, c.round-got.ensures.shaped)
+    let n = (goal.at.search_without-requires c).In-Wrong in
+    let s = (goal.at.In-Wrong n).Start in
+    let a = s.args in
+    let p = s.requires in
+    let o = left_out a.d p.1.0 p.1.1 a.k a.t a.e (whole s) (named n) (wrong-level n false c.if-all.false).1 in
+    (p.0, p.1, p.2, p.3, p.5, p.6, o, p.8, p.9, n.round-got.ensures.shaped)

@@ -17,7 +17,7 @@ use Rattle.level.proofs.Shares.{from_end, sized-at}
 use Rattle.rounds.proofs.Collected.{set-start, holder-low, holder-high, set_same, set_more}
 use Rattle.rounds.proofs.Lowest.{six_bits, width-six}
 use Rattle.decoder.proofs.wide_by.Goals as goal
-use Rattle.decoder.proofs.wide_by.Goals.{At-loop-i, In-loop-i}
+use Rattle.decoder.proofs.wide_by.Goals.{After-in_width, At-loop-i, In-loop-i, Then-not-in_width}
 
 pub loop-i-init : goal.loop-i-init
 loop-i-init c = let a = c.args in (omega arith, set-start a.d c.requires.0 (wide a.k) a.m a.hs.now a.ys.now c.requires.2)
@@ -49,26 +49,30 @@ overflow_shl-set c =
 pub loop-i-preserved-then-not-in_width : goal.loop-i-preserved-then-not-in_width
 unfolding wide
 loop-i-preserved-then-not-in_width c =
-    let a = c.args in
-    let e : all_in_width a.k (take a.d (get_or a.ys.now (c.loop-i.i - 1) [])) ≡ false =
-    sym (row-width (goal.at.loop-i-preserved-then-not-in_width c).In-loop-i (omega arith)) ∙ ap (λ (u : Element). in_width a.k (six_bits u)) (sym c.keep-u.ensures) ∙ sym c.in_width.ensures
+    let w = (goal.at.loop-i-preserved-then-not-in_width c).Then-not-in_width in
+    let l = (goal.at.Then-not-in_width w).In-loop-i in
+    let a = l.args in
+    let e : all_in_width a.k (take a.d (get_or a.ys.now (l.loop-i.i - 1) [])) ≡ false =
+    sym (row-width l (omega arith)) ∙ ap (λ (u : Element). in_width a.k (six_bits u)) (sym w.keep-u.ensures) ∙ sym w.in_width.ensures
     ∙ not-true _ c.if-not-in_width.true in (
-      omega (arith, c.loop-i.invariant.0),
-      set_more a.d c.requires.0 (wide a.k) a.m a.hs.now a.ys.now c.requires.2 c.loop-i.i (omega arith)
-          c.loop-i.invariant.0 (ap not e) c.loop-i.set c.loop-i.invariant.1,
+      omega (arith, l.loop-i.invariant.0),
+      set_more a.d l.requires.0 (wide a.k) a.m a.hs.now a.ys.now l.requires.2 l.loop-i.i (omega arith)
+          l.loop-i.invariant.0 (ap not e) l.loop-i.set l.loop-i.invariant.1,
     )
 
 pub loop-i-preserved : goal.loop-i-preserved
 unfolding wide
 loop-i-preserved c =
-    let a = c.args in
-    let e : all_in_width a.k (take a.d (get_or a.ys.now (c.loop-i.i - 1) [])) ≡ true =
-    sym (row-width (goal.at.loop-i-preserved c).At-loop-i (omega arith)) ∙ ap (λ (u : Element). in_width a.k (six_bits u)) (sym c.keep-u.ensures) ∙ sym c.in_width.ensures
+    let w = (goal.at.loop-i-preserved c).After-in_width in
+    let l = (goal.at.After-in_width w).At-loop-i in
+    let a = l.args in
+    let e : all_in_width a.k (take a.d (get_or a.ys.now (l.loop-i.i - 1) [])) ≡ true =
+    sym (row-width l (omega arith)) ∙ ap (λ (u : Element). in_width a.k (six_bits u)) (sym w.keep-u.ensures) ∙ sym w.in_width.ensures
     ∙ not-false _ c.if-not-in_width.false in (
-      omega (arith, c.loop-i.invariant.0),
-      c.loop-i.invariant.1
-          ∙ set_same a.d c.requires.0 (wide a.k) a.m a.hs.now a.ys.now c.requires.2 c.loop-i.i (omega arith)
-          c.loop-i.invariant.0 (ap not e),
+      omega (arith, l.loop-i.invariant.0),
+      l.loop-i.invariant.1
+          ∙ set_same a.d l.requires.0 (wide a.k) a.m a.hs.now a.ys.now l.requires.2 l.loop-i.i (omega arith)
+          l.loop-i.invariant.0 (ap not e),
     )
 
 pub returns : goal.returns

@@ -29,20 +29,23 @@ fault s = describe_fault (bs s) (length (old s))
 fault-is : (c : After-first-fault) → fault (goal.at.After-first-fault c).Start ≡ c.first-fault.result
 unfolding describe_fault
 fault-is c =
+    let s = (goal.at.After-first-fault c).Start in
     let r = c.accept-accepted in
     sym (c.first-fault.ensures
     ∙ ap (first r.result.fault) c.length_fault.ensures
-    ∙ after-bundle (bs (goal.at.After-first-fault c).Start) r.result r.ensures (λ (h : Heading) (n : ℕ). length_fault 9 (length (old (goal.at.After-first-fault c).Start))))
+    ∙ after-bundle (bs s) r.result r.ensures (λ (h : Heading) (n : ℕ). length_fault 9 (length (old s))))
 
 pub returns-then-fault-ne0 : goal.returns-then-fault-ne0
-returns-then-fault-ne0 c = declined (fault (goal.at.returns-then-fault-ne0 c).Start) c.first-fault.result (old (goal.at.returns-then-fault-ne0 c).Start) (about_of (bs (goal.at.returns-then-fault-ne0 c).Start)) (fault-is (goal.at.returns-then-fault-ne0 c).After-first-fault) c.if-fault-ne0.true
+returns-then-fault-ne0 c =
+    let s = (goal.at.returns-then-fault-ne0 c).Start in
+    declined (fault s) c.first-fault.result (old s) (about_of (bs s)) (fault-is (goal.at.returns-then-fault-ne0 c).After-first-fault) c.if-fault-ne0.true
 
 -- past the tests the bundle is accepted, and the output has nine words
 none : (c : Else-fault-ne0) → fault (goal.at.Else-fault-ne0 c).Start ≡ 0
 none c = fault-is (goal.at.Else-fault-ne0 c).After-first-fault ∙ c.if-fault-ne0.false
 
-known : (c : Else-fault-ne0) → (bundle_fault (bs (goal.at.Else-fault-ne0 c).Start) ≡ 0) × (length (old (goal.at.Else-fault-ne0 c).Start) ≡ 9)
-known c = described (bs (goal.at.Else-fault-ne0 c).Start) (length (old (goal.at.Else-fault-ne0 c).Start)) (none c)
+known : (c : Else-fault-ne0) → let s = (goal.at.Else-fault-ne0 c).Start in (bundle_fault (bs s) ≡ 0) × (length (old s) ≡ 9)
+known c = let s = (goal.at.Else-fault-ne0 c).Start in described (bs s) (length (old s)) (none c)
 
 clear : (c : Else-fault-ne0) → c.accept-accepted.result.fault ≡ 0
 clear c = first-left c.accept-accepted.result.fault _ (sym c.first-fault.ensures ∙ c.if-fault-ne0.false)
@@ -55,7 +58,8 @@ allowance-requires c = (known (goal.at.allowance-requires c).Else-fault-ne0).0
 
 pub file_size-requires : goal.file_size-requires
 file_size-requires c =
-    let r = ranges-of (bs (goal.at.file_size-requires c).Start) (bundle-ok (bs (goal.at.file_size-requires c).Start) (known (goal.at.file_size-requires c).Else-fault-ne0).0) _ (heading-is (goal.at.file_size-requires c).Else-fault-ne0) in
+    let b = (goal.at.file_size-requires c).Else-fault-ne0 in
+    let r = ranges-of (bs (goal.at.Else-fault-ne0 b).Start) (bundle-ok (bs (goal.at.Else-fault-ne0 b).Start) (known b).0) _ (heading-is b) in
     (r.book.d-high, r.jobs_high)
 
 pub copy_words-requires : goal.copy_words-requires
@@ -63,8 +67,10 @@ copy_words-requires c = (known (goal.at.copy_words-requires c).Else-fault-ne0).1
 
 pub returns : goal.returns
 returns c =
-    let r = c.accept-accepted in
-    succeeded (fault (goal.at.returns c).Start) (old (goal.at.returns c).Start) (about_of (bs (goal.at.returns c).Start)) _ (none (goal.at.returns c).Else-fault-ne0)
+    let b = (goal.at.returns c).Else-fault-ne0 in
+    let s = (goal.at.Else-fault-ne0 b).Start in
+    let r = b.accept-accepted in
+    succeeded (fault s) (old s) (about_of (bs s)) _ (none b)
     (c.copy_words.ensures
-    ∙ about-is (bs (goal.at.returns c).Start) r.result.heading (heading-is (goal.at.returns c).Else-fault-ne0) c.file_size.result c.file_size.ensures c.allowance.result
-    r.result.files c.allowance.ensures (accept-files (bs (goal.at.returns c).Start) r.result r.ensures (clear (goal.at.returns c).Else-fault-ne0)))
+    ∙ about-is (bs s) r.result.heading (heading-is b) c.file_size.result c.file_size.ensures c.allowance.result
+    r.result.files c.allowance.ensures (accept-files (bs s) r.result r.ensures (clear b)))

@@ -35,21 +35,25 @@ new s = number_of (bs s) s.args.place
 fault-is : (c : After-first-fault) → fault (goal.at.After-first-fault c).Start ≡ c.first-fault.result
 unfolding number_fault
 fault-is c =
+    let s = (goal.at.After-first-fault c).Start in
     let r = c.accept-accepted in
     sym (c.first-fault.ensures
     ∙ ap (first r.result.fault)
     (c.first.ensures ∙ ap₂ first c.length_fault.ensures c.place_fault.ensures)
-    ∙ after-bundle (bs (goal.at.After-first-fault c).Start) r.result r.ensures (λ (h : Heading) (n : ℕ). first (length_fault 1 (length (old (goal.at.After-first-fault c).Start))) (place_fault h c.args.place)))
+    ∙ after-bundle (bs s) r.result r.ensures (λ (h : Heading) (n : ℕ). first (length_fault 1 (length (old s))) (place_fault h s.args.place)))
 
 pub returns-then-fault-ne0 : goal.returns-then-fault-ne0
-returns-then-fault-ne0 c = declined (fault (goal.at.returns-then-fault-ne0 c).Start) c.first-fault.result (old (goal.at.returns-then-fault-ne0 c).Start) (new (goal.at.returns-then-fault-ne0 c).Start) (fault-is (goal.at.returns-then-fault-ne0 c).After-first-fault) c.if-fault-ne0.true
+returns-then-fault-ne0 c =
+    let s = (goal.at.returns-then-fault-ne0 c).Start in
+    declined (fault s) c.first-fault.result (old s) (new s) (fault-is (goal.at.returns-then-fault-ne0 c).After-first-fault) c.if-fault-ne0.true
 
 -- past the tests the job is there
 none : (c : Else-fault-ne0) → fault (goal.at.Else-fault-ne0 c).Start ≡ 0
 none c = fault-is (goal.at.Else-fault-ne0 c).After-first-fault ∙ c.if-fault-ne0.false
 
-known : (c : Else-fault-ne0) → (bundle_fault (bs (goal.at.Else-fault-ne0 c).Start) ≡ 0) × (length (old (goal.at.Else-fault-ne0 c).Start) ≡ 1) × (c.args.place < (bundle_heading (bs (goal.at.Else-fault-ne0 c).Start)).jobs)
-known c = numbered (bs (goal.at.Else-fault-ne0 c).Start) c.args.place (length (old (goal.at.Else-fault-ne0 c).Start)) (none c)
+known : (c : Else-fault-ne0) → let s = (goal.at.Else-fault-ne0 c).Start in
+    (bundle_fault (bs s) ≡ 0) × (length (old s) ≡ 1) × (s.args.place < (bundle_heading (bs s)).jobs)
+known c = let s = (goal.at.Else-fault-ne0 c).Start in numbered (bs s) s.args.place (length (old s)) (none c)
 
 pub job_number-requires : goal.job_number-requires
 job_number-requires c =
@@ -64,5 +68,6 @@ bounds-number-0 c = let l = (known (goal.at.bounds-number-0 c).Else-fault-ne0).1
 pub returns : goal.returns
 unfolding number_of
 returns c =
-    succeeded (fault (goal.at.returns c).Start) (old (goal.at.returns c).Start) (new (goal.at.returns c).Start) _ (none (goal.at.returns c).Else-fault-ne0)
-    (set_single (old (goal.at.returns c).Start) _ (known (goal.at.returns c).Else-fault-ne0).1 ∙ ap (λ (x : ℕ). x ∷ []) c.job_number.ensures)
+    let s = (goal.at.returns c).Start in
+    succeeded (fault s) (old s) (new s) _ (none (goal.at.returns c).Else-fault-ne0)
+    (set_single (old s) _ (known (goal.at.returns c).Else-fault-ne0).1 ∙ ap (λ (x : ℕ). x ∷ []) c.job_number.ensures)

@@ -10,7 +10,7 @@ use Rattle.archive.specs.Archive.{place_opening}
 use Rattle.desk.specs.Desk.{closed_fault, desk_fault, desk_opening}
 use Rattle.desk.proofs.Laws.{ahead, desk-high, desk-fits, desk-declines, desk-opens, place-proper, count-declined, count-opened}
 use Rattle.desk.proofs.open_by.Goals as goal
-use Rattle.desk.proofs.open_by.Goals.{After-step-stepped, After-struct_known-1, Start}
+use Rattle.desk.proofs.open_by.Goals.{After-open_accepted-arg-1, After-open_accepted-outcome, After-step-stepped, After-struct_known-1, Start}
 
 abbrev n : Start → ℕ
 n s = length s.args.out.now
@@ -26,15 +26,16 @@ O s = place_opening s.args.bytes.now s.args.place
 
 pub returns-then-refused-ne0 : goal.returns-then-refused-ne0
 returns-then-refused-ne0 c =
-    let s = c.args in
+    let t = (goal.at.returns-then-refused-ne0 c).Start in
+    let s = t.args in
     let r = c.allowance_fault-refused in
     let y = c.if-refused-ne0.true in
-    rw (desk-declines s.allowance s.count s.bytes.now s.place (n (goal.at.returns-then-refused-ne0 c).Start) (w (goal.at.returns-then-refused-ne0 c).Start) (l (goal.at.returns-then-refused-ne0 c).Start)
+    rw (desk-declines s.allowance s.count s.bytes.now s.place (n t) (w t) (l t)
     r.result (desk-high s.allowance s.count _ r.result r.ensures y) y)
     (refl, refl, refl, refl, refl)
 
 abbrev early : After-step-stepped → ℕ
-early k = let s = k.args in ahead s.allowance s.count s.bytes.now s.place (n (goal.at.After-step-stepped k).Start) (w (goal.at.After-step-stepped k).Start) (l (goal.at.After-step-stepped k).Start)
+early k = let t = (goal.at.After-step-stepped k).Start in let s = t.args in ahead s.allowance s.count s.bytes.now s.place (n t) (w t) (l t)
 
 told : (k : After-step-stepped) → desk_fault k.args.allowance k.args.count (early k) ≡ k.step-stepped.result.fault
 told k =
@@ -45,11 +46,13 @@ told k =
 
 pub returns-then-stepped-ne0 : goal.returns-then-stepped-ne0
 returns-then-stepped-ne0 c =
-    let s = c.args in
+    let k = (goal.at.returns-then-stepped-ne0 c).After-step-stepped in
+    let t = (goal.at.After-step-stepped k).Start in
+    let s = t.args in
     let y = c.if-stepped-ne0.true in
-    rw (desk-declines s.allowance s.count s.bytes.now s.place (n (goal.at.returns-then-stepped-ne0 c).Start) (w (goal.at.returns-then-stepped-ne0 c).Start) (l (goal.at.returns-then-stepped-ne0 c).Start)
-    c.step-stepped.result.fault (told (goal.at.returns-then-stepped-ne0 c).After-step-stepped) y)
-    (refl, c.step-stepped.ensures.1 ∙ kept-some _ _ _ (λ x. y (c.step-stepped.ensures.0 ∙ x)), refl, refl, refl)
+    rw (desk-declines s.allowance s.count s.bytes.now s.place (n t) (w t) (l t)
+    k.step-stepped.result.fault (told k) y)
+    (refl, k.step-stepped.ensures.1 ∙ kept-some _ _ _ (λ x. y (k.step-stepped.ensures.0 ∙ x)), refl, refl, refl)
 
 -- nothing is refused ahead of the opening
 passed : (k : After-step-stepped) → k.step-stepped.result.fault ≡ 0 → k.accept_place-accepted.result.fault ≡ 0
@@ -57,30 +60,41 @@ passed k z = first-left _ _ (sym k.step-stepped.ensures.0 ∙ z)
 
 pub open_accepted-outcome-requires : goal.open_accepted-outcome-requires
 open_accepted-outcome-requires c =
-    let z = passed (goal.at.open_accepted-outcome-requires c).After-struct_known-1 c.if-stepped-ne0.false in
-    let r = c.accept_place-accepted.ensures in
+    let e = (goal.at.open_accepted-outcome-requires c).After-open_accepted-arg-1 in
+    let k = (goal.at.After-open_accepted-arg-1 e).After-struct_known-1 in
+    let z = passed k e.if-stepped-ne0.false in
+    let r = k.accept_place-accepted.ensures in
     let h = r.1 z in
     (sym r.0 ∙ z, h.0, h.1)
 
-opened : (k : After-step-stepped) → k.step-stepped.result.fault ≡ 0 → let s = k.args in
-    desk_opening s.allowance s.count s.bytes.now s.place (n (goal.at.After-step-stepped k).Start) (w (goal.at.After-step-stepped k).Start) (l (goal.at.After-step-stepped k).Start)
-    ≡ O (goal.at.After-step-stepped k).Start
+opened : (k : After-step-stepped) → k.step-stepped.result.fault ≡ 0 → let t = (goal.at.After-step-stepped k).Start in let s = t.args in
+    desk_opening s.allowance s.count s.bytes.now s.place (n t) (w t) (l t)
+    ≡ O t
 opened k z =
-    let s = k.args in
-    desk-opens s.allowance s.count s.bytes.now s.place (n (goal.at.After-step-stepped k).Start) (w (goal.at.After-step-stepped k).Start) (l (goal.at.After-step-stepped k).Start)
+    let t = (goal.at.After-step-stepped k).Start in
+    let s = t.args in
+    desk-opens s.allowance s.count s.bytes.now s.place (n t) (w t) (l t)
     (told k ∙ z)
 
 pub returns-then-outcome-eq0 : goal.returns-then-outcome-eq0
 returns-then-outcome-eq0 c =
-    let s = c.args in
-    let x = c.open_accepted-outcome.ensures in
-    let n = c.step-stepped.ensures.1 ∙ kept-none _ _ _ (sym c.step-stepped.ensures.0 ∙ c.if-stepped-ne0.false) in
-    rw (opened (goal.at.returns-then-outcome-eq0 c).After-struct_known-1 c.if-stepped-ne0.false)
-    (x.0, n ∙ count-opened _ _ (O (goal.at.returns-then-outcome-eq0 c).Start) (place-proper s.bytes.now s.place) x.0 c.if-outcome-eq0.true, x.1.0, x.1.1.0, x.1.1.1)
+    let g = (goal.at.returns-then-outcome-eq0 c).After-open_accepted-outcome in
+    let e = (goal.at.After-open_accepted-outcome g).After-open_accepted-arg-1 in
+    let k = (goal.at.After-open_accepted-arg-1 e).After-struct_known-1 in
+    let t = (goal.at.After-struct_known-1 k).Start in
+    let s = t.args in
+    let x = g.open_accepted-outcome.ensures in
+    let n = k.step-stepped.ensures.1 ∙ kept-none _ _ _ (sym k.step-stepped.ensures.0 ∙ e.if-stepped-ne0.false) in
+    rw (opened k e.if-stepped-ne0.false)
+    (x.0, n ∙ count-opened _ _ (O t) (place-proper s.bytes.now s.place) x.0 c.if-outcome-eq0.true, x.1.0, x.1.1.0, x.1.1.1)
 
 pub returns : goal.returns
 returns c =
-    let s = c.args in
-    let x = c.open_accepted-outcome.ensures in
-    rw (opened (goal.at.returns c).After-struct_known-1 c.if-stepped-ne0.false)
-    (x.0, count-declined _ _ (O (goal.at.returns c).Start) x.0 c.if-outcome-eq0.false, x.1.0, x.1.1.0, x.1.1.1)
+    let g = (goal.at.returns c).After-open_accepted-outcome in
+    let e = (goal.at.After-open_accepted-outcome g).After-open_accepted-arg-1 in
+    let k = (goal.at.After-open_accepted-arg-1 e).After-struct_known-1 in
+    let t = (goal.at.After-struct_known-1 k).Start in
+    let s = t.args in
+    let x = g.open_accepted-outcome.ensures in
+    rw (opened k e.if-stepped-ne0.false)
+    (x.0, count-declined _ _ (O t) x.0 c.if-outcome-eq0.false, x.1.0, x.1.1.0, x.1.1.1)

@@ -21,7 +21,7 @@ use Rattle.listing.proofs.Lines.{narrow}
 use Rattle.exporting.specs.Export.{export_at}
 use Rattle.exporting.proofs.Places.{export-kept, export-opened}
 use Rattle.exporting.proofs.put_place.Goals as goal
-use Rattle.exporting.proofs.put_place.Goals.{After-lens_job-job, After-place_opening-opened, Start}
+use Rattle.exporting.proofs.put_place.Goals.{After-lens_job-job, After-place_opening-opened, After-put_job, Start}
 
 abbrev bs : Start → List ℕ
 bs s = s.args.bytes.now
@@ -46,29 +46,35 @@ place_opening-opened-requires c = (c.requires.0, c.requires.1, c.requires.3, c.r
 
 pub returns-then-opened-ne0 : goal.returns-then-opened-ne0
 returns-then-opened-ne0 c =
-    let o = c.place_opening-opened in
-    let n = c.job_number-number in
+    let a = (goal.at.returns-then-opened-ne0 c).After-place_opening-opened in
+    let s = (goal.at.After-place_opening-opened a).Start in
+    let o = a.place_opening-opened in
+    let n = a.job_number-number in
     let p = c.put_kept in
-    wrote-line c.args.out.now _ (export_at (bs (goal.at.returns-then-opened-ne0 c).Start) c.args.place) (kept_line (number (goal.at.returns-then-opened-ne0 c).After-place_opening-opened) o.result.fault) p.result
-    (export-kept (bs (goal.at.returns-then-opened-ne0 c).Start) c.args.place c.args.h c.requires.1 (number (goal.at.returns-then-opened-ne0 c).After-place_opening-opened) n.ensures o.result.fault o.result.wrong (rows (goal.at.returns-then-opened-ne0 c).After-place_opening-opened)
+    wrote-line s.args.out.now _ (export_at (bs s) s.args.place) (kept_line (number a) o.result.fault) p.result
+    (export-kept (bs s) s.args.place s.args.h s.requires.1 (number a) n.ensures o.result.fault o.result.wrong (rows a)
     o.ensures.0 o.ensures.1.0 c.if-opened-ne0.true)
-    p.ensures (kept-length (number (goal.at.returns-then-opened-ne0 c).After-place_opening-opened) o.result.fault (omega arith) (omega arith))
+    p.ensures (kept-length (number a) o.result.fault (omega arith) (omega arith))
 
 pub slice_bounds-words-end : goal.slice_bounds-words-end
 slice_bounds-words-end c = omega (arith, row-length (goal.at.slice_bounds-words-end c).After-place_opening-opened)
 
 pub slice_bounds-lens_job-end : goal.slice_bounds-lens_job-end
-slice_bounds-lens_job-end c = sym (length-take-le 4 (row (goal.at.slice_bounds-lens_job-end c).After-place_opening-opened) (omega (arith, row-length (goal.at.slice_bounds-lens_job-end c).After-place_opening-opened)))
+slice_bounds-lens_job-end c =
+    let a = (goal.at.slice_bounds-lens_job-end c).After-place_opening-opened in
+    sym (length-take-le 4 (row a) (omega (arith, row-length a)))
 
 pub lens_job-job-requires : goal.lens_job-job-requires
 lens_job-job-requires c =
-    let o = c.place_opening-opened in
-    let n = c.job_number-number in
-    let k = (known (goal.at.lens_job-job-requires c).Start).book in (
+    let a = (goal.at.lens_job-job-requires c).After-place_opening-opened in
+    let s = (goal.at.After-place_opening-opened a).Start in
+    let o = a.place_opening-opened in
+    let n = a.job_number-number in
+    let k = (known s).book in (
       (k.k-low, k.k-high),
-      length-take-le 4 (row (goal.at.lens_job-job-requires c).After-place_opening-opened) (omega (arith, row-length (goal.at.lens_job-job-requires c).After-place_opening-opened)),
-      ap (λ (d : ℕ). all_in_width c.args.h.params.k (take d (row (goal.at.lens_job-job-requires c).After-place_opening-opened))) (sym c.requires.2)
-          ∙ narrow (bs (goal.at.lens_job-job-requires c).Start) c.args.place c.args.h c.requires.1 (number (goal.at.lens_job-job-requires c).After-place_opening-opened) n.ensures o.result.fault o.result.wrong (rows (goal.at.lens_job-job-requires c).After-place_opening-opened)
+      length-take-le 4 (row a) (omega (arith, row-length a)),
+      ap (λ (d : ℕ). all_in_width s.args.h.params.k (take d (row a))) (sym s.requires.2)
+          ∙ narrow (bs s) s.args.place s.args.h s.requires.1 (number a) n.ensures o.result.fault o.result.wrong (rows a)
           o.ensures.0 o.ensures.1.0 c.if-opened-ne0.false o.ensures.1.1.1,
     )
 
@@ -77,19 +83,23 @@ put_job-requires c = omega (arith, c.requires.5)
 
 -- the text of its words
 opened-text : (c : After-lens_job-job) →
-    export_at (bs (goal.at.After-lens_job-job c).Start) c.args.place ≡ lines_of c.lens_job-job.result
+    let a = (goal.at.After-lens_job-job c).After-place_opening-opened in let s = (goal.at.After-place_opening-opened a).Start in export_at (bs s) s.args.place ≡ lines_of c.lens_job-job.result
 unfolding text_of
 opened-text c =
-    let o = c.place_opening-opened in
-    let h = c.args.h in
-    let n = c.job_number-number in
-    export-opened (bs (goal.at.After-lens_job-job c).Start) c.args.place h c.requires.1 (number (goal.at.After-lens_job-job c).After-place_opening-opened) n.ensures o.result.fault o.result.wrong (rows (goal.at.After-lens_job-job c).After-place_opening-opened)
+    let a = (goal.at.After-lens_job-job c).After-place_opening-opened in
+    let s = (goal.at.After-place_opening-opened a).Start in
+    let o = a.place_opening-opened in
+    let h = s.args.h in
+    let n = a.job_number-number in
+    export-opened (bs s) s.args.place h s.requires.1 (number a) n.ensures o.result.fault o.result.wrong (rows a)
     o.ensures.0 o.ensures.1.0 c.if-opened-ne0.false o.ensures.1.1.1
-    ∙ ap (λ (d : ℕ). text_of h.params.k (number (goal.at.After-lens_job-job c).After-place_opening-opened) (take d (row (goal.at.After-lens_job-job c).After-place_opening-opened))) c.requires.2
+    ∙ ap (λ (d : ℕ). text_of h.params.k (number a) (take d (row a))) s.requires.2
     ∙ ap lines_of (sym c.lens_job-job.ensures)
 
 pub returns : goal.returns
 returns c =
-    let e = sym (opened-text (goal.at.returns c).After-lens_job-job) in
-    let r = c.put_job.ensures in
-    (r.0 ∙ ap (λ (t : List ℕ). written 0 t c.args.out.now) e, r.1 ∙ ap length e, omega (arith, r.2))
+    let p = (goal.at.returns c).After-put_job in
+    let j = (goal.at.After-put_job p).After-lens_job-job in
+    let e = sym (opened-text j) in
+    let r = p.put_job.ensures in
+    (r.0 ∙ ap (λ (t : List ℕ). written 0 t j.args.out.now) e, r.1 ∙ ap length e, omega (arith, r.2))

@@ -16,7 +16,7 @@ use Rattle.fetch.specs.Fetch.{file_of, body_fault}
 use Rattle.fetch.proofs.Fetch.{body_refused, body-told, body-empty, body-part, body-accepted}
 use Rattle.fetch.proofs.Places.{file-asks, job-asks, job-spot, job-fits}
 use Rattle.fetch.proofs.fetch_body.Goals as goal
-use Rattle.fetch.proofs.fetch_body.Goals.{After-first, After-job_at-start, After-place_fault, Else-first-ne0, Start}
+use Rattle.fetch.proofs.fetch_body.Goals.{After-first, After-h-1, After-job_at-start, After-place_fault, Else-first-ne0, Start}
 
 abbrev bs : Start → List ℕ
 bs s = s.args.bytes.now
@@ -36,12 +36,15 @@ find_file-f-requires c =
     (accept-none s r.result r.ensures c.if-accepted-ne0.false, accept-files s r.result r.ensures c.if-accepted-ne0.false)
 
 -- the two tests are the fetch's
-fault-is : (c : After-first) → c.first.result ≡ body_fault (bs (goal.at.After-first c).Start) c.args.holder c.args.p
+fault-is : (c : After-first) → let s = (goal.at.After-first c).Start in
+    c.first.result ≡ body_fault (bs s) s.args.holder s.args.p
 fault-is c =
-    let r = c.accept-accepted in
+    let b = (goal.at.After-first c).After-h-1 in
+    let s = (goal.at.After-h-1 b).Start in
+    let r = b.accept-accepted in
     c.first.ensures
     ∙ ap₂ first c.holder_fault.ensures c.place_fault.ensures
-    ∙ body-told (bs (goal.at.After-first c).Start) c.args.holder c.args.p r.result r.ensures c.if-accepted-ne0.false _ c.find_file-f.ensures
+    ∙ body-told (bs s) s.args.holder s.args.p r.result r.ensures b.if-accepted-ne0.false _ c.find_file-f.ensures
 
 pub returns-then-first-ne0 : goal.returns-then-first-ne0
 returns-then-first-ne0 c =
@@ -60,10 +63,14 @@ heading-is c =
     accept-heading (bs (goal.at.Else-first-ne0 c).Start) r.result r.ensures c.if-accepted-ne0.false
 
 found : (c : Else-first-ne0) → c.find_file-f.result < files_of (bs (goal.at.Else-first-ne0 c).Start)
-found c = omega (arith, c.find_file-f.ensures, (body-accepted (bs (goal.at.Else-first-ne0 c).Start) c.args.holder c.args.p (none c)).1)
+found c =
+    let s = (goal.at.Else-first-ne0 c).Start in
+    omega (arith, c.find_file-f.ensures, (body-accepted (bs s) s.args.holder s.args.p (none c)).1)
 
 here : (c : Else-first-ne0) → c.args.p < (H c).jobs
-here c = omega (arith, (body-accepted (bs (goal.at.Else-first-ne0 c).Start) c.args.holder c.args.p (none c)).2, ap (λ (h : Heading). h.jobs) (heading-is c))
+here c =
+    let s = (goal.at.Else-first-ne0 c).Start in
+    omega (arith, (body-accepted (bs s) s.args.holder s.args.p (none c)).2, ap (λ (h : Heading). h.jobs) (heading-is c))
 
 accepted : (c : Else-first-ne0) → bundle_fault (bs (goal.at.Else-first-ne0 c).Start) ≡ 0
 accepted c = (body-accepted (bs (goal.at.Else-first-ne0 c).Start) c.args.holder c.args.p (none c)).0
@@ -71,19 +78,25 @@ accepted c = (body-accepted (bs (goal.at.Else-first-ne0 c).Start) c.args.holder 
 pub job_at-start-requires : goal.job_at-start-requires
 job_at-start-requires c = job-asks (bs (goal.at.job_at-start-requires c).Start) (accepted c) (H c) (heading-is c) _ (found c) c.args.p (omega (arith, here c))
 
-job_is : (c : After-job_at-start) → c.job_at-start.result ≡ job_at (bs (goal.at.After-job_at-start c).Start) (file_of (bs (goal.at.After-job_at-start c).Start) c.args.holder) c.args.p
+job_is : (c : After-job_at-start) → let s = (goal.at.After-job_at-start c).Start in c.job_at-start.result ≡ job_at (bs s) (file_of (bs s) s.args.holder) s.args.p
 job_is c =
-    job-spot (bs (goal.at.After-job_at-start c).Start) (accepted (goal.at.After-job_at-start c).Else-first-ne0) (H (goal.at.After-job_at-start c).Else-first-ne0) (heading-is (goal.at.After-job_at-start c).Else-first-ne0) _ (found (goal.at.After-job_at-start c).Else-first-ne0) c.args.p c.job_at-start.result (here (goal.at.After-job_at-start c).Else-first-ne0) c.job_at-start.ensures
-    ∙ ap (λ (f : ℕ). job_at (bs (goal.at.After-job_at-start c).Start) f c.args.p) c.find_file-f.ensures
+    let b = (goal.at.After-job_at-start c).Else-first-ne0 in
+    let s = (goal.at.Else-first-ne0 b).Start in
+    job-spot (bs s) (accepted b) (H b) (heading-is b) _ (found b) s.args.p c.job_at-start.result (here b) c.job_at-start.ensures
+    ∙ ap (λ (f : ℕ). job_at (bs s) f s.args.p) b.find_file-f.ensures
 
 fits : (c : After-job_at-start) → (c.job_at-start.result + (4 + job_len (H (goal.at.After-job_at-start c).Else-first-ne0)) ≤ length (bs (goal.at.After-job_at-start c).Start)) × (10 ≤ job_len (H (goal.at.After-job_at-start c).Else-first-ne0))
-fits c = job-fits (bs (goal.at.After-job_at-start c).Start) (accepted (goal.at.After-job_at-start c).Else-first-ne0) (H (goal.at.After-job_at-start c).Else-first-ne0) (heading-is (goal.at.After-job_at-start c).Else-first-ne0) _ (found (goal.at.After-job_at-start c).Else-first-ne0) c.args.p c.job_at-start.result (here (goal.at.After-job_at-start c).Else-first-ne0) c.job_at-start.ensures
+fits c =
+    let b = (goal.at.After-job_at-start c).Else-first-ne0 in
+    job-fits (bs (goal.at.Else-first-ne0 b).Start) (accepted b) (H b) (heading-is b) _ (found b) b.args.p c.job_at-start.result (here b) c.job_at-start.ensures
 
 pub overflow_add-start : goal.overflow_add-start
 overflow_add-start c = omega (arith, fits c, c.well_formed)
 
 pub job_length-requires : goal.job_length-requires
-job_length-requires c = (file-asks (bs (goal.at.job_length-requires c).Start) (accepted (goal.at.job_length-requires c).Else-first-ne0) (H (goal.at.job_length-requires c).Else-first-ne0) (heading-is (goal.at.job_length-requires c).Else-first-ne0) _ (found (goal.at.job_length-requires c).Else-first-ne0)).0
+job_length-requires c =
+    let b = (goal.at.job_length-requires c).Else-first-ne0 in
+    (file-asks (bs (goal.at.Else-first-ne0 b).Start) (accepted b) (H b) (heading-is b) _ (found b)).0
 
 pub overflow_sub-end : goal.overflow_sub-end
 overflow_sub-end c = omega (arith, c.job_length.ensures, fits (goal.at.overflow_sub-end c).After-job_at-start)
@@ -102,6 +115,8 @@ spot l at at' len len' e f = rw (e, f, add-sub_cancel_left)
 
 pub returns : goal.returns
 returns c =
-    spot (bs (goal.at.returns c).Start) c.job_at-start.result (job_at (bs (goal.at.returns c).Start) (file_of (bs (goal.at.returns c).Start) c.args.holder) c.args.p) c.job_length.result
-    (job_len (bundle_heading (bs (goal.at.returns c).Start))) (job_is (goal.at.returns c).After-job_at-start) (c.job_length.ensures ∙ ap job_len (heading-is (goal.at.returns c).Else-first-ne0))
-    ∙ sym (body-part (bs (goal.at.returns c).Start) c.args.holder c.args.p (none (goal.at.returns c).Else-first-ne0))
+    let b = (goal.at.returns c).Else-first-ne0 in
+    let s = (goal.at.Else-first-ne0 b).Start in
+    spot (bs s) c.job_at-start.result (job_at (bs s) (file_of (bs s) s.args.holder) s.args.p) c.job_length.result
+    (job_len (bundle_heading (bs s))) (job_is (goal.at.returns c).After-job_at-start) (c.job_length.ensures ∙ ap job_len (heading-is b))
+    ∙ sym (body-part (bs s) s.args.holder s.args.p (none b))

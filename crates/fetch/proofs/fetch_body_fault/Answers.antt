@@ -7,15 +7,16 @@ use Rattle.words.specs.Refusal.{first}
 use Rattle.bundle.proofs.Bundles.{accept-none, accept-files}
 use Rattle.fetch.proofs.Fetch.{body_refused, body-told}
 use Rattle.fetch.proofs.fetch_body_fault.Goals as goal
-use Rattle.fetch.proofs.fetch_body_fault.Goals.{Start}
+use Rattle.fetch.proofs.fetch_body_fault.Goals.{After-h-1, Start}
 
 abbrev bs : Start → List ℕ
 bs s = s.args.bytes.now
 
 pub returns-then-accepted-ne0 : goal.returns-then-accepted-ne0
 returns-then-accepted-ne0 c =
+    let s = (goal.at.returns-then-accepted-ne0 c).Start in
     let r = c.accept-accepted in
-    body_refused (bs (goal.at.returns-then-accepted-ne0 c).Start) c.args.holder c.args.p r.result r.ensures c.if-accepted-ne0.true
+    body_refused (bs s) s.args.holder s.args.p r.result r.ensures c.if-accepted-ne0.true
 
 pub find_file-f-requires : goal.find_file-f-requires
 find_file-f-requires c =
@@ -25,7 +26,9 @@ find_file-f-requires c =
 
 pub returns : goal.returns
 returns c =
-    let r = c.accept-accepted in
+    let b = (goal.at.returns c).After-h-1 in
+    let s = (goal.at.After-h-1 b).Start in
+    let r = b.accept-accepted in
     c.first.ensures
     ∙ ap₂ first c.holder_fault.ensures c.place_fault.ensures
-    ∙ body-told (bs (goal.at.returns c).Start) c.args.holder c.args.p r.result r.ensures c.if-accepted-ne0.false _ c.find_file-f.ensures
+    ∙ body-told (bs s) s.args.holder s.args.p r.result r.ensures b.if-accepted-ne0.false _ c.find_file-f.ensures

@@ -31,9 +31,10 @@ new s = part_of (bs s) (file_of (bs s) s.args.holder) s.args.place
 
 pub returns-then-accepted-ne0 : goal.returns-then-accepted-ne0
 returns-then-accepted-ne0 c =
+    let s = (goal.at.returns-then-accepted-ne0 c).Start in
     let r = c.accept-accepted in
-    declined (fault (goal.at.returns-then-accepted-ne0 c).Start) r.result.fault (old (goal.at.returns-then-accepted-ne0 c).Start) (new (goal.at.returns-then-accepted-ne0 c).Start)
-    (part-refused (bs (goal.at.returns-then-accepted-ne0 c).Start) c.args.holder c.args.place r.result r.ensures (length (old (goal.at.returns-then-accepted-ne0 c).Start)) c.if-accepted-ne0.true) c.if-accepted-ne0.true
+    declined (fault s) r.result.fault (old s) (new s)
+    (part-refused (bs s) s.args.holder s.args.place r.result r.ensures (length (old s)) c.if-accepted-ne0.true) c.if-accepted-ne0.true
 
 pub find_file-f-requires : goal.find_file-f-requires
 find_file-f-requires c =
@@ -51,7 +52,9 @@ fault-is c =
     (c.first.ensures ∙ ap₂ first c.length_fault.ensures c.place_fault.ensures))
 
 pub returns-then-fault-ne0 : goal.returns-then-fault-ne0
-returns-then-fault-ne0 c = declined (fault (goal.at.returns-then-fault-ne0 c).Start) c.first-fault.result (old (goal.at.returns-then-fault-ne0 c).Start) (new (goal.at.returns-then-fault-ne0 c).Start) (fault-is (goal.at.returns-then-fault-ne0 c).After-first-fault) c.if-fault-ne0.true
+returns-then-fault-ne0 c =
+    let s = (goal.at.returns-then-fault-ne0 c).Start in
+    declined (fault s) c.first-fault.result (old s) (new s) (fault-is (goal.at.returns-then-fault-ne0 c).After-first-fault) c.if-fault-ne0.true
 
 abbrev H : Else-fault-ne0 → Heading
 H c = c.accept-accepted.result.heading
@@ -59,7 +62,8 @@ H c = c.accept-accepted.result.heading
 none : (c : Else-fault-ne0) → fault (goal.at.Else-fault-ne0 c).Start ≡ 0
 none c = fault-is (goal.at.Else-fault-ne0 c).After-first-fault ∙ c.if-fault-ne0.false
 
-known : (c : Else-fault-ne0) → (bundle_fault (bs (goal.at.Else-fault-ne0 c).Start) ≡ 0) × (file_of (bs (goal.at.Else-fault-ne0 c).Start) c.args.holder < files_of (bs (goal.at.Else-fault-ne0 c).Start)) × (length (old (goal.at.Else-fault-ne0 c).Start) ≡ 2) × (c.args.place < (bundle_heading (bs (goal.at.Else-fault-ne0 c).Start)).jobs)
+known : (c : Else-fault-ne0) → let s = (goal.at.Else-fault-ne0 c).Start in
+    (bundle_fault (bs s) ≡ 0) × (file_of (bs s) s.args.holder < files_of (bs s)) × (length (old s) ≡ 2) × (s.args.place < (bundle_heading (bs s)).jobs)
 known c = part-accepted (bs (goal.at.Else-fault-ne0 c).Start) c.args.holder c.args.place (length (old (goal.at.Else-fault-ne0 c).Start)) (none c)
 
 heading-is : (c : Else-fault-ne0) → H c ≡ bundle_heading (bs (goal.at.Else-fault-ne0 c).Start)
@@ -76,13 +80,17 @@ here c = omega (arith, (known c).3, ap (λ (h : Heading). h.jobs) (heading-is c)
 pub job_at-requires : goal.job_at-requires
 job_at-requires c = job-asks (bs (goal.at.job_at-requires c).Start) (known c).0 (H c) (heading-is c) _ (found c) c.args.place (omega (arith, here c))
 
-job_is : (c : After-job_at) → c.job_at.result ≡ job_at (bs (goal.at.After-job_at c).Start) (file_of (bs (goal.at.After-job_at c).Start) c.args.holder) c.args.place
+job_is : (c : After-job_at) → let s = (goal.at.After-job_at c).Start in c.job_at.result ≡ job_at (bs s) (file_of (bs s) s.args.holder) s.args.place
 job_is c =
-    job-spot (bs (goal.at.After-job_at c).Start) (known (goal.at.After-job_at c).Else-fault-ne0).0 (H (goal.at.After-job_at c).Else-fault-ne0) (heading-is (goal.at.After-job_at c).Else-fault-ne0) _ (found (goal.at.After-job_at c).Else-fault-ne0) c.args.place c.job_at.result (here (goal.at.After-job_at c).Else-fault-ne0) c.job_at.ensures
-    ∙ ap (λ (f : ℕ). job_at (bs (goal.at.After-job_at c).Start) f c.args.place) c.find_file-f.ensures
+    let b = (goal.at.After-job_at c).Else-fault-ne0 in
+    let s = (goal.at.Else-fault-ne0 b).Start in
+    job-spot (bs s) (known b).0 (H b) (heading-is b) _ (found b) s.args.place c.job_at.result (here b) c.job_at.ensures
+    ∙ ap (λ (f : ℕ). job_at (bs s) f s.args.place) b.find_file-f.ensures
 
 fits : (c : After-job_at) → (c.job_at.result + (4 + job_len (H (goal.at.After-job_at c).Else-fault-ne0)) ≤ length (bs (goal.at.After-job_at c).Start)) × (10 ≤ job_len (H (goal.at.After-job_at c).Else-fault-ne0))
-fits c = job-fits (bs (goal.at.After-job_at c).Start) (known (goal.at.After-job_at c).Else-fault-ne0).0 (H (goal.at.After-job_at c).Else-fault-ne0) (heading-is (goal.at.After-job_at c).Else-fault-ne0) _ (found (goal.at.After-job_at c).Else-fault-ne0) c.args.place c.job_at.result (here (goal.at.After-job_at c).Else-fault-ne0) c.job_at.ensures
+fits c =
+    let b = (goal.at.After-job_at c).Else-fault-ne0 in
+    job-fits (bs (goal.at.Else-fault-ne0 b).Start) (known b).0 (H b) (heading-is b) _ (found b) b.args.place c.job_at.result (here b) c.job_at.ensures
 
 pub overflow_add-part : goal.overflow_add-part
 overflow_add-part c = omega (arith, fits c, c.well_formed)
@@ -91,7 +99,9 @@ pub bounds-part-0 : goal.bounds-part-0
 bounds-part-0 c = omega (arith, (known (goal.at.bounds-part-0 c).Else-fault-ne0).2)
 
 pub job_length-requires : goal.job_length-requires
-job_length-requires c = (file-asks (bs (goal.at.job_length-requires c).Start) (known (goal.at.job_length-requires c).Else-fault-ne0).0 (H (goal.at.job_length-requires c).Else-fault-ne0) (heading-is (goal.at.job_length-requires c).Else-fault-ne0) _ (found (goal.at.job_length-requires c).Else-fault-ne0)).0
+job_length-requires c =
+    let b = (goal.at.job_length-requires c).Else-fault-ne0 in
+    (file-asks (bs (goal.at.Else-fault-ne0 b).Start) (known b).0 (H b) (heading-is b) _ (found b)).0
 
 pub overflow_sub-part : goal.overflow_sub-part
 overflow_sub-part c = omega (arith, c.job_length.ensures, fits (goal.at.overflow_sub-part c).After-job_at)
@@ -101,5 +111,7 @@ bounds-part-1 c = let l = (known (goal.at.bounds-part-1 c).Else-fault-ne0).2 in 
 
 pub returns : goal.returns
 returns c =
-    part-written (bs (goal.at.returns c).Start) c.args.holder c.args.place (old (goal.at.returns c).Start) c.job_at.result c.job_length.result (none (goal.at.returns c).Else-fault-ne0) (job_is (goal.at.returns c).After-job_at)
-    (c.job_length.ensures ∙ ap job_len (heading-is (goal.at.returns c).Else-fault-ne0))
+    let b = (goal.at.returns c).Else-fault-ne0 in
+    let s = (goal.at.Else-fault-ne0 b).Start in
+    part-written (bs s) s.args.holder s.args.place (old s) c.job_at.result c.job_length.result (none b) (job_is (goal.at.returns c).After-job_at)
+    (c.job_length.ensures ∙ ap job_len (heading-is b))

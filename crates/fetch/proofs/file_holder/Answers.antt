@@ -14,13 +14,19 @@ abbrev bs : Start → List ℕ
 bs s = s.args.bytes.now
 
 pub file_at-requires : goal.file_at-requires
-file_at-requires c = file-asks (bs (goal.at.file_at-requires c).Start) c.requires.0 c.args.h c.requires.1 c.args.f c.requires.2
+file_at-requires c =
+    let s = (goal.at.file_at-requires c).Start in
+    file-asks (bs s) s.requires.0 s.args.h s.requires.1 s.args.f s.requires.2
 
 place : (c : After-file_at) → c.file_at.result ≡ file_at (bs (goal.at.After-file_at c).Start) c.args.f
-place c = c.file_at.ensures ∙ sym (file-place (bs (goal.at.After-file_at c).Start) (bundle-ok (bs (goal.at.After-file_at c).Start) c.requires.0) c.args.h c.args.f c.requires.1)
+place c =
+    let s = (goal.at.After-file_at c).Start in
+    c.file_at.ensures ∙ sym (file-place (bs s) (bundle-ok (bs s) s.requires.0) s.args.h s.args.f s.requires.1)
 
 pub heading_at-found-requires : goal.heading_at-found-requires
-heading_at-found-requires c = rw (place c) (heading-within (bs (goal.at.heading_at-found-requires c).Start) (bundle-ok (bs (goal.at.heading_at-found-requires c).Start) c.requires.0) c.args.f c.requires.2)
+heading_at-found-requires c =
+    let s = (goal.at.heading_at-found-requires c).Start in
+    rw (place c) (heading-within (bs s) (bundle-ok (bs s) s.requires.0) s.args.f s.requires.2)
 
 pub returns : goal.returns
 returns c =

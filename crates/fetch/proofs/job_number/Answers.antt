@@ -19,13 +19,19 @@ some : (s : Start) → 0 < files_of (bs s)
 some s = omega (arith, (bundle-ok (bs s) s.requires.0).files.some)
 
 pub job_at-requires : goal.job_at-requires
-job_at-requires c = job-asks (bs (goal.at.job_at-requires c).Start) c.requires.0 c.args.h c.requires.1 0 (some (goal.at.job_at-requires c).Start) c.args.p (omega (arith, c.requires.2))
+job_at-requires c =
+    let s = (goal.at.job_at-requires c).Start in
+    job-asks (bs s) s.requires.0 s.args.h s.requires.1 0 (some s) s.args.p (omega (arith, s.requires.2))
 
 place : (c : After-job_at) → c.job_at.result ≡ job_at (bs (goal.at.After-job_at c).Start) 0 c.args.p
-place c = job-spot (bs (goal.at.After-job_at c).Start) c.requires.0 c.args.h c.requires.1 0 (some (goal.at.After-job_at c).Start) c.args.p _ c.requires.2 c.job_at.ensures
+place c =
+    let s = (goal.at.After-job_at c).Start in
+    job-spot (bs s) s.requires.0 s.args.h s.requires.1 0 (some s) s.args.p _ s.requires.2 c.job_at.ensures
 
 fits : (c : After-job_at) → body_at c.job_at.result + 8 ≤ length (bs (goal.at.After-job_at c).Start)
-fits c = omega (arith, job-fits (bs (goal.at.After-job_at c).Start) c.requires.0 c.args.h c.requires.1 0 (some (goal.at.After-job_at c).Start) c.args.p _ c.requires.2 c.job_at.ensures)
+fits c =
+    let s = (goal.at.After-job_at c).Start in
+    omega (arith, job-fits (bs s) s.requires.0 s.args.h s.requires.1 0 (some s) s.args.p _ s.requires.2 c.job_at.ensures)
 
 pub overflow_add-job_at : goal.overflow_add-job_at
 overflow_add-job_at c = omega (arith, fits c, c.well_formed)

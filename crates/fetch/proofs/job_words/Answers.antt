@@ -20,9 +20,10 @@ bs s = s.args.bytes.now
 within : (c : After-job_at) → c.job_at.result + 6 + 8 + 8 * c.args.h.params.d ≤ length (bs (goal.at.After-job_at c).Start)
 unfolding job_len_of word_size
 within c =
+    let s = (goal.at.After-job_at c).Start in
     omega (
       arith,
-      job-fits (bs (goal.at.After-job_at c).Start) c.requires.0 c.args.h c.requires.1 c.args.f c.requires.2 c.args.p c.job_at.result c.requires.3 c.job_at.ensures,
+      job-fits (bs s) s.requires.0 s.args.h s.requires.1 s.args.f s.requires.2 s.args.p c.job_at.result s.requires.3 c.job_at.ensures,
     )
 
 words_are : (c : After-job_at) (d : ℕ) → c.args.h.params.d ≡ d →
@@ -30,23 +31,28 @@ words_are : (c : After-job_at) (d : ℕ) → c.args.h.params.d ≡ d →
     ≡ words_of (bs (goal.at.After-job_at c).Start) c.args.f c.args.p ++ drop c.args.h.params.d (replicate 6 0)
 unfolding words_of word_size
 words_are c d e =
+    let s = (goal.at.After-job_at c).Start in
     ap₂ (λ (x : List ℕ) (n : ℕ). x ++ drop n (replicate 6 0))
-    (ap₂ (λ (n at : ℕ). words_from 8 (bs (goal.at.After-job_at c).Start) n (at + 6 + 8)) (sym e ∙ ap (λ (h : Heading). h.params.d) c.requires.1)
-    (job-spot (bs (goal.at.After-job_at c).Start) c.requires.0 c.args.h c.requires.1 c.args.f c.requires.2 c.args.p c.job_at.result c.requires.3 c.job_at.ensures))
+    (ap₂ (λ (n at : ℕ). words_from 8 (bs s) n (at + 6 + 8)) (sym e ∙ ap (λ (h : Heading). h.params.d) s.requires.1)
+    (job-spot (bs s) s.requires.0 s.args.h s.requires.1 s.args.f s.requires.2 s.args.p c.job_at.result s.requires.3 c.job_at.ensures))
     (sym e)
 
 asked : (c : After-job_at) (d : ℕ) → c.args.h.params.d ≡ d → (d ≤ 6) × (c.job_at.result + 6 + 8 + 8 * d ≤ length (bs (goal.at.After-job_at c).Start))
-asked c d e = (omega (arith, (ranges-of (bs (goal.at.After-job_at c).Start) (bundle-ok (bs (goal.at.After-job_at c).Start) c.requires.0) c.args.h c.requires.1).book.d-high), omega (arith, within c))
+asked c d e =
+    let s = (goal.at.After-job_at c).Start in
+    (omega (arith, (ranges-of (bs s) (bundle-ok (bs s) s.requires.0) s.args.h s.requires.1).book.d-high), omega (arith, within c))
 
 -- past 2, 3, 4 and 5
 last : (c : In_default) → c.args.h.params.d ≡ 6
 last c =
-    let b = (ranges-of (bs (goal.at.In_default c).Start) (bundle-ok (bs (goal.at.In_default c).Start) c.requires.0) c.args.h c.requires.1).book in
+    let s = (goal.at.In_default c).Start in
+    let b = (ranges-of (bs s) (bundle-ok (bs s) s.requires.0) s.args.h s.requires.1).book in
     let r = c.in_default.in_default-own.rest in
-    six c.args.h.params.d b.d-low b.d-high r.0.0.0.1 r.0.0.1 r.0.1 r.1
+    six s.args.h.params.d b.d-low b.d-high r.0.0.0.1 r.0.0.1 r.0.1 r.1
 
 pub job_at-requires : goal.job_at-requires
-job_at-requires c = job-asks (bs (goal.at.job_at-requires c).Start) c.requires.0 c.args.h c.requires.1 c.args.f c.requires.2 c.args.p (omega (arith, c.requires.3))
+job_at-requires c = let s = (goal.at.job_at-requires c).Start in
+    job-asks (bs s) s.requires.0 s.args.h s.requires.1 s.args.f s.requires.2 s.args.p (omega (arith, s.requires.3))
 
 pub overflow_add-at : goal.overflow_add-at
 overflow_add-at c = omega (arith, within c, c.well_formed)

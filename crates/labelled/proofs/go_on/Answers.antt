@@ -3,6 +3,7 @@ use Rattle.std.proofs.Common.{ℕ, ap, ◌∙◌, arith, rules}
 use Rattle.words.specs.declared.Signed.{Signed}
 use Rattle.labelled.proofs.Steps.{goes-minus, goes-low, goes-high, goes-digit}
 use Rattle.labelled.proofs.go_on.Goals as goal
+use Rattle.labelled.proofs.go_on.Goals.{Else-c-gt57}
 
 pub returns-then-c-eq45 : goal.returns-then-c-eq45
 returns-then-c-eq45 c = goes-minus c.args.s c.args.c c.if-c-eq45.true
@@ -15,6 +16,7 @@ returns-then-c-gt57 c = goes-high c.args.s c.args.c c.if-c-gt57.true
 
 pub returns : goal.returns
 returns c =
-    let sign = c.args.s.negative in
+    let e = (goal.at.returns c).Else-c-gt57 in
+    let sign = e.args.s.negative in
     ap (λ (m : ℕ). (let r : Signed = record { negative = sign; magnitude = m } in r)) (c.wrapping_add_u64.ensures.value ∙ rw c.mul64.ensures)
-    ∙ goes-digit c.args.s c.args.c (omega (arith, c.if-c-lt48.false)) (omega (arith, c.if-c-gt57.false))
+    ∙ goes-digit e.args.s e.args.c (omega (arith, e.if-c-lt48.false)) (omega (arith, e.if-c-gt57.false))

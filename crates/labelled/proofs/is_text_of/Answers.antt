@@ -19,12 +19,15 @@ unfolding is_text_of
 returns-then-not-job_in_range c = sym (and_no (job_in_range c.args.k c.args.job) _ (sym c.job_in_range.ensures ∙ not-true _ c.if-not-job_in_range.true))
 
 pub slice_bounds-same_text-end : goal.slice_bounds-same_text-end
-slice_bounds-same_text-end c = c.put_job-n.ensures.1 ∙ sym (ap length (front (goal.at.slice_bounds-same_text-end c).After-put_job-n))
+slice_bounds-same_text-end c =
+    let p = (goal.at.slice_bounds-same_text-end c).After-put_job-n in
+    p.put_job-n.ensures.1 ∙ sym (ap length (front p))
 
 pub returns : goal.returns
 unfolding is_text_of
 returns c =
-    let in-range = sym c.job_in_range.ensures ∙ not-false _ c.if-not-job_in_range.false in
+    let p = (goal.at.returns c).After-put_job-n in
+    let in-range = sym p.job_in_range.ensures ∙ not-false _ p.if-not-job_in_range.false in
     c.same_text.ensures
-    ∙ ap (same_text c.args.text.now) (front (goal.at.returns c).After-put_job-n)
-    ∙ sym (and_yes (job_in_range c.args.k c.args.job) (same_text c.args.text.now (lines_of c.args.job)) in-range refl)
+    ∙ ap (same_text p.args.text.now) (front p)
+    ∙ sym (and_yes (job_in_range p.args.k p.args.job) (same_text p.args.text.now (lines_of p.args.job)) in-range refl)

@@ -17,9 +17,10 @@ sphere c = sym c.in_range.ensures ∙ not-false _ c.if-not-in_range.false
 pub returns-then-not-in_range-2 : goal.returns-then-not-in_range-2
 unfolding job_in_range
 returns-then-not-in_range-2 c =
+    let e = (goal.at.returns-then-not-in_range-2 c).After-in_range-arg-2-1 in
     sym
-    (and_yes (in_range c.args.k c.args.job.sphere) _ (sphere (goal.at.returns-then-not-in_range-2 c).After-in_range-arg-2-1)
-    (and_no (in_range c.args.k c.args.job.cylinder) _ (sym c.in_range-2.ensures ∙ not-true _ c.if-not-in_range-2.true)))
+    (and_yes (in_range e.args.k e.args.job.sphere) _ (sphere e)
+    (and_no (in_range e.args.k e.args.job.cylinder) _ (sym c.in_range-2.ensures ∙ not-true _ c.if-not-in_range-2.true)))
 
 cylinder : (c : Else-not-in_range-2) → in_range c.args.k c.args.job.cylinder ≡ true
 cylinder c = sym c.in_range-2.ensures ∙ not-false _ c.if-not-in_range-2.false
@@ -27,10 +28,12 @@ cylinder c = sym c.in_range-2.ensures ∙ not-false _ c.if-not-in_range-2.false
 pub returns-then-not-in_range-3 : goal.returns-then-not-in_range-3
 unfolding job_in_range
 returns-then-not-in_range-3 c =
+    let f = (goal.at.returns-then-not-in_range-3 c).After-in_range-arg-3-1 in
+    let e = (goal.at.After-in_range-arg-3-1 f).After-in_range-2 in
     sym
-    (and_yes (in_range c.args.k c.args.job.sphere) _ (sphere (goal.at.returns-then-not-in_range-3 c).After-in_range-2)
-    (and_yes (in_range c.args.k c.args.job.cylinder) _ (cylinder (goal.at.returns-then-not-in_range-3 c).After-in_range-arg-3-1)
-    (and_no (in_range c.args.k c.args.job.axis) _ (sym c.in_range-3.ensures ∙ not-true _ c.if-not-in_range-3.true))))
+    (and_yes (in_range e.args.k e.args.job.sphere) _ (sphere e)
+    (and_yes (in_range e.args.k e.args.job.cylinder) _ (cylinder f)
+    (and_no (in_range e.args.k e.args.job.axis) _ (sym c.in_range-3.ensures ∙ not-true _ c.if-not-in_range-3.true))))
 
 axis : (c : Else-not-in_range-3) → in_range c.args.k c.args.job.axis ≡ true
 axis c = sym c.in_range-3.ensures ∙ not-false _ c.if-not-in_range-3.false
@@ -38,8 +41,11 @@ axis c = sym c.in_range-3.ensures ∙ not-false _ c.if-not-in_range-3.false
 pub returns : goal.returns
 unfolding job_in_range
 returns c =
+    let g = (goal.at.returns c).After-in_range-arg-4-1 in
+    let f = (goal.at.After-in_range-arg-4-1 g).After-in_range-3 in
+    let e = (goal.at.After-in_range-3 f).Else-not-in_range-2 in
     c.in_range-4.ensures
     ∙ sym
-    (and_yes (in_range c.args.k c.args.job.sphere) _ (sphere (goal.at.returns c).Else-not-in_range-2)
-    (and_yes (in_range c.args.k c.args.job.cylinder) _ (cylinder (goal.at.returns c).After-in_range-3)
-    (and_yes (in_range c.args.k c.args.job.axis) (in_range c.args.k c.args.job.thickness) (axis (goal.at.returns c).After-in_range-arg-4-1) refl)))
+    (and_yes (in_range e.args.k e.args.job.sphere) _ (sphere e)
+    (and_yes (in_range e.args.k e.args.job.cylinder) _ (cylinder f)
+    (and_yes (in_range e.args.k e.args.job.axis) (in_range e.args.k e.args.job.thickness) (axis g) refl)))

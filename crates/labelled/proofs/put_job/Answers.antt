@@ -46,58 +46,81 @@ thickness-short s = fixed-length (ascii "CTHICK=") s.args.job.thickness (omega a
 abbrev Upto : Start → ℕ → List ℕ → List ℕ → ℕ → Type 0
 Upto s i text new end = Part s.args.out.now 0 i text new end
 
-part1 : (c : After-put_whole-p) → Upto (goal.at.After-put_whole-p c).Start 27 (job (goal.at.After-put_whole-p c).Start) c.put_whole-p.new.out c.put_whole-p.result
-part1 c = record { wrote = c.put_whole-p.ensures; kept = c.put_whole-p.auto.0; short = job-short (goal.at.After-put_whole-p c).Start }
+part1 : (c : After-put_whole-p) → let s = (goal.at.After-put_whole-p c).Start in
+    Upto s 27 (job s) c.put_whole-p.new.out c.put_whole-p.result
+part1 c = record { wrote = c.put_whole-p.ensures; kept = c.put_whole-p.auto.out; short = job-short (goal.at.After-put_whole-p c).Start }
 
-part2 : (c : After-put_fixed-q) → Upto (goal.at.After-put_fixed-q c).Start 57 (job (goal.at.After-put_fixed-q c).Start ++ sphere (goal.at.After-put_fixed-q c).Start) c.put_fixed-q.new.out c.put_fixed-q.result
+part2 : (c : After-put_fixed-q) → let s = (goal.at.After-put_fixed-q c).Start in
+    Upto s 57 (job s ++ sphere s) c.put_fixed-q.new.out c.put_fixed-q.result
 part2 c =
-    part-more (sphere (goal.at.After-put_fixed-q c).Start) 30 (sphere-short (goal.at.After-put_fixed-q c).Start) (omega (arith, c.requires))
-    (part1 (goal.at.After-put_fixed-q c).After-slice_known-2-1) c.put_fixed-q.ensures c.put_fixed-q.auto.0
+    let s = (goal.at.After-put_fixed-q c).Start in
+    part-more (sphere s) 30 (sphere-short s) (omega (arith, s.requires))
+    (part1 (goal.at.After-put_fixed-q c).After-slice_known-2-1) c.put_fixed-q.ensures c.put_fixed-q.auto.out
 
-part3 : (c : After-put_fixed-r) → Upto (goal.at.After-put_fixed-r c).Start 87 (job (goal.at.After-put_fixed-r c).Start ++ sphere (goal.at.After-put_fixed-r c).Start ++ cylinder (goal.at.After-put_fixed-r c).Start) c.put_fixed-r.new.out c.put_fixed-r.result
+part3 : (c : After-put_fixed-r) → let s = (goal.at.After-put_fixed-r c).Start in
+    Upto s 87 (job s ++ sphere s ++ cylinder s) c.put_fixed-r.new.out c.put_fixed-r.result
 part3 c =
-    part-more (cylinder (goal.at.After-put_fixed-r c).Start) 30 (cylinder-short (goal.at.After-put_fixed-r c).Start) (omega (arith, c.requires))
-    (part2 (goal.at.After-put_fixed-r c).After-slice_known-3-1) c.put_fixed-r.ensures c.put_fixed-r.auto.0
+    let s = (goal.at.After-put_fixed-r c).Start in
+    part-more (cylinder s) 30 (cylinder-short s) (omega (arith, s.requires))
+    (part2 (goal.at.After-put_fixed-r c).After-slice_known-3-1) c.put_fixed-r.ensures c.put_fixed-r.auto.out
 
-part4 : (c : After-put_whole-s) → Upto (goal.at.After-put_whole-s c).Start 113 (job (goal.at.After-put_whole-s c).Start ++ sphere (goal.at.After-put_whole-s c).Start ++ cylinder (goal.at.After-put_whole-s c).Start ++ axis (goal.at.After-put_whole-s c).Start) c.put_whole-s.new.out c.put_whole-s.result
+part4 : (c : After-put_whole-s) → let s = (goal.at.After-put_whole-s c).Start in
+    Upto s 113 (job s ++ sphere s ++ cylinder s ++ axis s) c.put_whole-s.new.out c.put_whole-s.result
 part4 c =
-    part-more (axis (goal.at.After-put_whole-s c).Start) 26 (axis-short (goal.at.After-put_whole-s c).Start) (omega (arith, c.requires))
-    (part3 (goal.at.After-put_whole-s c).After-slice_known-4-1) c.put_whole-s.ensures c.put_whole-s.auto.0
+    let s = (goal.at.After-put_whole-s c).Start in
+    part-more (axis s) 26 (axis-short s) (omega (arith, s.requires))
+    (part3 (goal.at.After-put_whole-s c).After-slice_known-4-1) c.put_whole-s.ensures c.put_whole-s.auto.out
 
-part5 : (c : After-put_fixed) → Upto (goal.at.After-put_fixed c).Start 146 (job (goal.at.After-put_fixed c).Start ++ sphere (goal.at.After-put_fixed c).Start ++ cylinder (goal.at.After-put_fixed c).Start ++ axis (goal.at.After-put_fixed c).Start ++ thickness (goal.at.After-put_fixed c).Start) c.put_fixed.new.out c.put_fixed.result
+part5 : (c : After-put_fixed) → let s = (goal.at.After-put_fixed c).Start in
+    Upto s 146 (job s ++ sphere s ++ cylinder s ++ axis s ++ thickness s) c.put_fixed.new.out c.put_fixed.result
 part5 c =
-    part-more (thickness (goal.at.After-put_fixed c).Start) 33 (thickness-short (goal.at.After-put_fixed c).Start) (omega (arith, c.requires))
-    (part4 (goal.at.After-put_fixed c).After-slice_known-5-1) c.put_fixed.ensures c.put_fixed.auto.0
+    let s = (goal.at.After-put_fixed c).Start in
+    part-more (thickness s) 33 (thickness-short s) (omega (arith, s.requires))
+    (part4 (goal.at.After-put_fixed c).After-slice_known-5-1) c.put_fixed.ensures c.put_fixed.auto.out
 
 -- LOST slice-aggregate-put-whole
 slice-aggregate-put-whole c = search rules
 
 pub put_whole-p-requires : goal.put_whole-p-requires
-put_whole-p-requires c = omega (arith, c.requires, job-short (goal.at.put_whole-p-requires c).After-slice_known-1)
+put_whole-p-requires c =
+    let s = (goal.at.put_whole-p-requires c).After-slice_known-1 in
+    omega (arith, s.requires, job-short s)
 
 -- LOST slice-aggregate-put-fixed
 slice-aggregate-put-fixed c = search rules
 
 pub put_fixed-q-requires : goal.put_fixed-q-requires
-put_fixed-q-requires c = part_room (sphere (goal.at.put_fixed-q-requires c).Start) 30 (sphere-short (goal.at.put_fixed-q-requires c).Start) (omega (arith, c.requires)) (part1 (goal.at.put_fixed-q-requires c).After-slice_known-2-1)
+put_fixed-q-requires c =
+    let p = (goal.at.put_fixed-q-requires c).After-slice_known-2-1 in
+    let s = (goal.at.After-slice_known-2-1 p).Start in
+    part_room (sphere s) 30 (sphere-short s) (omega (arith, s.requires)) (part1 p)
 
 -- LOST slice-aggregate-put-fixed-2
 slice-aggregate-put-fixed-2 c = search rules
 
 pub put_fixed-r-requires : goal.put_fixed-r-requires
-put_fixed-r-requires c = part_room (cylinder (goal.at.put_fixed-r-requires c).Start) 30 (cylinder-short (goal.at.put_fixed-r-requires c).Start) (omega (arith, c.requires)) (part2 (goal.at.put_fixed-r-requires c).After-slice_known-3-1)
+put_fixed-r-requires c =
+    let p = (goal.at.put_fixed-r-requires c).After-slice_known-3-1 in
+    let s = (goal.at.After-slice_known-3-1 p).Start in
+    part_room (cylinder s) 30 (cylinder-short s) (omega (arith, s.requires)) (part2 p)
 
 -- LOST slice-aggregate-put-whole-2
 slice-aggregate-put-whole-2 c = search rules
 
 pub put_whole-s-requires : goal.put_whole-s-requires
-put_whole-s-requires c = part_room (axis (goal.at.put_whole-s-requires c).Start) 26 (axis-short (goal.at.put_whole-s-requires c).Start) (omega (arith, c.requires)) (part3 (goal.at.put_whole-s-requires c).After-slice_known-4-1)
+put_whole-s-requires c =
+    let p = (goal.at.put_whole-s-requires c).After-slice_known-4-1 in
+    let s = (goal.at.After-slice_known-4-1 p).Start in
+    part_room (axis s) 26 (axis-short s) (omega (arith, s.requires)) (part3 p)
 
 -- LOST slice-aggregate-put-fixed-3
 slice-aggregate-put-fixed-3 c = search rules
 
 pub put_fixed-requires : goal.put_fixed-requires
-put_fixed-requires c = part_room (thickness (goal.at.put_fixed-requires c).Start) 33 (thickness-short (goal.at.put_fixed-requires c).Start) (omega (arith, c.requires)) (part4 (goal.at.put_fixed-requires c).After-slice_known-5-1)
+put_fixed-requires c =
+    let p = (goal.at.put_fixed-requires c).After-slice_known-5-1 in
+    let s = (goal.at.After-slice_known-5-1 p).Start in
+    part_room (thickness s) 33 (thickness-short s) (omega (arith, s.requires)) (part4 p)
 
 whole : (s : Start) → lines_of s.args.job ≡ job s ++ sphere s ++ cylinder s ++ axis s ++ thickness s
 unfolding lines_of signed_text sign
@@ -106,5 +129,6 @@ whole s = refl
 pub returns : goal.returns
 returns c =
     let p = part5 (goal.at.returns c).After-put_fixed in
-    wrote-line c.args.out.now _ (lines_of c.args.job) (job (goal.at.returns c).Start ++ sphere (goal.at.returns c).Start ++ cylinder (goal.at.returns c).Start ++ axis (goal.at.returns c).Start ++ thickness (goal.at.returns c).Start) _ (whole (goal.at.returns c).Start) p.wrote
+    let s = (goal.at.returns c).Start in
+    wrote-line s.args.out.now _ (lines_of s.args.job) (job s ++ sphere s ++ cylinder s ++ axis s ++ thickness s) _ (whole s) p.wrote
     (omega (arith, p.short))

@@ -70,7 +70,7 @@ accepted : (c : Else-not-is_text_of) → is_text c.args.p.k (text (goal.at.Else-
 accepted c = sym (is-text (goal.at.Else-not-is_text_of c).After-is_text_of) ∙ not-false _ c.if-not-is_text_of.false
 
 -- the outputs
-lengths : (c : Else-fault-ne0) → first (length_fault 1 (length (number (goal.at.Else-fault-ne0 c).Start))) (length_fault 4 (length (words (goal.at.Else-fault-ne0 c).Start))) ≡ 0
+lengths : (c : Else-fault-ne0) → let s = (goal.at.Else-fault-ne0 c).Start in first (length_fault 1 (length (number s))) (length_fault 4 (length (words s))) ≡ 0
 lengths c = first-right (lens_fault c.args.p) _ (none c)
 
 one : (c : Else-fault-ne0) → length (number (goal.at.Else-fault-ne0 c).Start) ≡ 1
@@ -81,19 +81,23 @@ four c = length-clear 4 _ (first-right (length_fault 1 (length (number (goal.at.
 
 pub returns-then-fault-ne0 : goal.returns-then-fault-ne0
 returns-then-fault-ne0 c =
+    let s = (goal.at.returns-then-fault-ne0 c).Start in
     let e = judged (goal.at.returns-then-fault-ne0 c).After-first-fault in
-    keeps (goal.at.returns-then-fault-ne0 c).Start _ (e ∙ sym (by-ahead (goal.at.returns-then-fault-ne0 c).Start ∙ first_some (A (goal.at.returns-then-fault-ne0 c).Start) _ (λ z. c.if-fault-ne0.true (e ∙ z)))) c.if-fault-ne0.true
+    keeps s _ (e ∙ sym (by-ahead s ∙ first_some (A s) _ (λ z. c.if-fault-ne0.true (e ∙ z)))) c.if-fault-ne0.true
 
 pub is_text_of-requires : goal.is_text_of-requires
 is_text_of-requires c =
-    let p = c.args.p in
-    let b = lens-clear p (first-left (lens_fault p) _ (none (goal.at.is_text_of-requires c).Else-fault-ne0)) in
+    let e = (goal.at.is_text_of-requires c).Else-fault-ne0 in
+    let p = e.args.p in
+    let b = lens-clear p (first-left (lens_fault p) _ (none e)) in
     (b.low, b.high)
 
 pub returns-then-not-is_text_of : goal.returns-then-not-is_text_of
 returns-then-not-is_text_of c =
-    let f = by-text (goal.at.returns-then-not-is_text_of c).After-is_text_of ∙ unless-no (is_text c.args.p.k (text (goal.at.returns-then-not-is_text_of c).Start)) TEXT (sym (is-text (goal.at.returns-then-not-is_text_of c).After-is_text_of) ∙ not-true _ c.if-not-is_text_of.true) in
-    keeps (goal.at.returns-then-not-is_text_of c).Start TEXT (sym f) (λ (q : 11 ≡ 0). omega arith)
+    let j = (goal.at.returns-then-not-is_text_of c).After-is_text_of in
+    let s = (goal.at.After-is_text_of j).Start in
+    let f = by-text j ∙ unless-no (is_text s.args.p.k (text s)) TEXT (sym (is-text j) ∙ not-true _ c.if-not-is_text_of.true) in
+    keeps s TEXT (sym f) (λ (q : 11 ≡ 0). omega arith)
 
 pub bounds-number-0 : goal.bounds-number-0
 bounds-number-0 c = let n = one (goal.at.bounds-number-0 c).Else-fault-ne0 in search rules
@@ -101,23 +105,28 @@ bounds-number-0 c = let n = one (goal.at.bounds-number-0 c).Else-fault-ne0 in se
 pub put_words-requires : goal.put_words-requires
 unfolding is_text_of
 put_words-requires c =
-    let p = c.args.p in
-    let b = lens-clear p (first-left (lens_fault p) _ (none (goal.at.put_words-requires c).Else-fault-ne0)) in (
+    let e = (goal.at.put_words-requires c).Else-not-is_text_of in
+    let f = (goal.at.Else-not-is_text_of e).Else-fault-ne0 in
+    let p = f.args.p in
+    let b = lens-clear p (first-left (lens_fault p) _ (none f)) in (
       (b.low, b.high),
-      and_left (job_in_range p.k c.scan-job.result) _ (sym c.is_text_of.ensures ∙ not-false _ c.if-not-is_text_of.false),
-      four (goal.at.put_words-requires c).Else-fault-ne0,
+      and_left (job_in_range p.k e.scan-job.result) _ (sym e.is_text_of.ensures ∙ not-false _ e.if-not-is_text_of.false),
+      four f,
     )
 
 pub returns : goal.returns
 returns c =
-    let k = c.args.p.k in
-    let f = by-text (goal.at.returns c).After-is_text_of ∙ unless-yes (is_text k (text (goal.at.returns c).Start)) TEXT (accepted (goal.at.returns c).Else-not-is_text_of) in
-    let q = c.scan-job.ensures in (
+    let e = (goal.at.returns c).Else-not-is_text_of in
+    let j = (goal.at.Else-not-is_text_of e).After-is_text_of in
+    let s = (goal.at.After-is_text_of j).Start in
+    let k = s.args.p.k in
+    let f = by-text j ∙ unless-yes (is_text k (text s)) TEXT (accepted e) in
+    let q = j.scan-job.ensures in (
       sym f,
       (
-        set_single (number (goal.at.returns c).Start) _ (one (goal.at.returns c).Else-fault-ne0)
+        set_single (number s) _ (one (goal.at.After-is_text_of j).Else-fault-ne0)
             ∙ ap (λ (x : LensJob). x.number ∷ []) q
-            ∙ sym (kept-none (F (goal.at.returns c).Start) (number (goal.at.returns c).Start) ((job (goal.at.returns c).Start).number ∷ []) f),
-        c.put_words.ensures ∙ ap (words_of k) q ∙ sym (kept-none (F (goal.at.returns c).Start) (words (goal.at.returns c).Start) (words_of k (job (goal.at.returns c).Start)) f),
+            ∙ sym (kept-none (F s) (number s) ((job s).number ∷ []) f),
+        c.put_words.ensures ∙ ap (words_of k) q ∙ sym (kept-none (F s) (words s) (words_of k (job s)) f),
       ),
     )

@@ -3,6 +3,7 @@ use Rattle.std.proofs.Common.{◌≡◌, ◌-◌, ◌<◌, ◌≤◌, length, dr
 use Rattle.labelled.specs.Reading.{same_text}
 use Rattle.labelled.proofs.Steps.{same-lengths, same_end, same_step, same-other}
 use Rattle.labelled.proofs.same_text.Goals as goal
+use Rattle.labelled.proofs.same_text.Goals.{At-loop-i}
 
 pub returns-then-a-b : goal.returns-then-a-b
 returns-then-a-b c = sym (same-lengths c.args.a.now c.args.b.now c.if-a-b.true)
@@ -12,26 +13,29 @@ loop-i-init c = (search rules, search rules, refl)
 
 pub returns-then-a-i : goal.returns-then-a-i
 returns-then-a-i c =
-    let a = c.args.a.now in
-    let b = c.args.b.now in
-    let i = c.loop-i.i in
+    let l = (goal.at.returns-then-a-i c).At-loop-i in
+    let a = l.args.a.now in
+    let b = l.args.b.now in
+    let i = l.loop-i.i in
     let h : i < length a = search rules in
-    sym (same-other a b i h (omega (arith, h, c.loop-i.invariant.0)) c.if-a-i.true) ∙ c.loop-i.invariant.2
+    sym (same-other a b i h (omega (arith, h, l.loop-i.invariant.0)) c.if-a-i.true) ∙ l.loop-i.invariant.2
 
 pub loop-i-preserved : goal.loop-i-preserved
 loop-i-preserved c =
-    let a = c.args.a.now in
-    let b = c.args.b.now in
-    let i = c.loop-i.i in
+    let l = (goal.at.loop-i-preserved c).At-loop-i in
+    let a = l.args.a.now in
+    let b = l.args.b.now in
+    let i = l.loop-i.i in
     let h : i < length a = search rules in (
-      c.loop-i.invariant.0,
+      l.loop-i.invariant.0,
       omega (arith, h),
-      rw (add-one i) (sym (same_step a b i h (omega (arith, h, c.loop-i.invariant.0)) c.if-a-i.false) ∙ c.loop-i.invariant.2),
+      rw (add-one i) (sym (same_step a b i h (omega (arith, h, l.loop-i.invariant.0)) c.if-a-i.false) ∙ l.loop-i.invariant.2),
     )
 
 pub returns : goal.returns
 returns c =
-    let a = c.args.a.now in
-    let b = c.args.b.now in
-    let h : length a ≤ c.loop-i.i = search rules in
-    sym (same_end a b c.loop-i.i h (omega (arith, h, c.loop-i.invariant.0))) ∙ c.loop-i.invariant.2
+    let l = (goal.at.returns c).At-loop-i in
+    let a = l.args.a.now in
+    let b = l.args.b.now in
+    let h : length a ≤ l.loop-i.i = search rules in
+    sym (same_end a b l.loop-i.i h (omega (arith, h, l.loop-i.invariant.0))) ∙ l.loop-i.invariant.2

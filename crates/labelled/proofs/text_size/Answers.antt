@@ -34,32 +34,39 @@ none : (c : Else-fault-ne0) → F (goal.at.Else-fault-ne0 c).Start ≡ 0
 none c = sym (judged (goal.at.Else-fault-ne0 c).After-first-fault) ∙ c.if-fault-ne0.false
 
 -- what writing asks for
-written : (c : Else-fault-ne0) → ((1 ≤ c.args.p.k) × (c.args.p.k ≤ 64)) × (length (words (goal.at.Else-fault-ne0 c).Start) ≡ 4) × (all_in_width c.args.p.k (words (goal.at.Else-fault-ne0 c).Start) ≡ true)
+written : (c : Else-fault-ne0) → let s = (goal.at.Else-fault-ne0 c).Start in
+    ((1 ≤ s.args.p.k) × (s.args.p.k ≤ 64)) × (length (words s) ≡ 4) × (all_in_width s.args.p.k (words s) ≡ true)
 written c =
-    let p = c.args.p in
-    let b = lens-clear p (size-lens p (words (goal.at.Else-fault-ne0 c).Start) (length (size (goal.at.Else-fault-ne0 c).Start)) (none c)) in
-    let f = size-words p (words (goal.at.Else-fault-ne0 c).Start) (length (size (goal.at.Else-fault-ne0 c).Start)) (none c) in
-    ((b.low, b.high), words-four p.k (words (goal.at.Else-fault-ne0 c).Start) f, words-wide p.k (words (goal.at.Else-fault-ne0 c).Start) f)
+    let s = (goal.at.Else-fault-ne0 c).Start in
+    let p = s.args.p in
+    let b = lens-clear p (size-lens p (words s) (length (size s)) (none c)) in
+    let f = size-words p (words s) (length (size s)) (none c) in
+    ((b.low, b.high), words-four p.k (words s) f, words-wide p.k (words s) f)
 
 pub returns-then-fault-ne0 : goal.returns-then-fault-ne0
 returns-then-fault-ne0 c =
+    let s = (goal.at.returns-then-fault-ne0 c).Start in
     let e = judged (goal.at.returns-then-fault-ne0 c).After-first-fault in
-    (e, sym (kept-some (F (goal.at.returns-then-fault-ne0 c).Start) (size (goal.at.returns-then-fault-ne0 c).Start) (new (goal.at.returns-then-fault-ne0 c).Start) (λ z. c.if-fault-ne0.true (e ∙ z))))
+    (e, sym (kept-some (F s) (size s) (new s) (λ z. c.if-fault-ne0.true (e ∙ z))))
 
 pub lens_job-requires : goal.lens_job-requires
 lens_job-requires c = written (goal.at.lens_job-requires c).Else-fault-ne0
 
 pub bounds-size-0 : goal.bounds-size-0
 bounds-size-0 c =
-    let one = size-one c.args.p (words (goal.at.bounds-size-0 c).Start) (length (size (goal.at.bounds-size-0 c).Start)) (none (goal.at.bounds-size-0 c).Else-fault-ne0) in
+    let e = (goal.at.bounds-size-0 c).Else-fault-ne0 in
+    let s = (goal.at.Else-fault-ne0 e).Start in
+    let one = size-one s.args.p (words s) (length (size s)) (none e) in
     search rules
 
 pub returns : goal.returns
 unfolding text_of
 returns c =
-    let z = none (goal.at.returns c).Else-fault-ne0 in
-    let one = size-one c.args.p (words (goal.at.returns c).Start) (length (size (goal.at.returns c).Start)) z in
+    let e = (goal.at.returns c).Else-fault-ne0 in
+    let s = (goal.at.Else-fault-ne0 e).Start in
+    let z = none e in
+    let one = size-one s.args.p (words s) (length (size s)) z in
     let t = ap (λ (x : LensJob). length (lines_of x)) c.lens_job.ensures in (
       sym z,
-      set_single (size (goal.at.returns c).Start) _ one ∙ ap (λ (x : ℕ). x ∷ []) (c.put_job-n.ensures.1 ∙ t) ∙ sym (kept-none (F (goal.at.returns c).Start) (size (goal.at.returns c).Start) (new (goal.at.returns c).Start) z),
+      set_single (size s) _ one ∙ ap (λ (x : ℕ). x ∷ []) (c.put_job-n.ensures.1 ∙ t) ∙ sym (kept-none (F s) (size s) (new s) z),
     )

@@ -10,7 +10,7 @@ use Rattle.labelled.specs.JobText.{lines_of, text_of}
 use Rattle.labelled.specs.Calls.{lens_fault, words_fault, write_fault}
 use Rattle.labelled.proofs.Calls.{lens-clear, words-four, words-wide}
 use Rattle.labelled.proofs.write_text.Goals as goal
-use Rattle.labelled.proofs.write_text.Goals.{After-first-fault, After-put_job-n, Else-fault-ne0, Start}
+use Rattle.labelled.proofs.write_text.Goals.{After-first-fault, After-put_bytes, After-put_job-n, After-room-3-1, Else-fault-ne0, Start}
 
 abbrev words : Start → List ℕ
 words s = s.args.words.now
@@ -53,37 +53,49 @@ front c =
 
 pub returns-then-fault-ne0 : goal.returns-then-fault-ne0
 returns-then-fault-ne0 c =
+    let s = (goal.at.returns-then-fault-ne0 c).Start in
     let e = judged (goal.at.returns-then-fault-ne0 c).After-first-fault in
-    let f = by-ahead (goal.at.returns-then-fault-ne0 c).Start ∙ first_some (A (goal.at.returns-then-fault-ne0 c).Start) _ (λ z. c.if-fault-ne0.true (e ∙ z)) in
-    (e ∙ sym f, sym (kept-some (F (goal.at.returns-then-fault-ne0 c).Start) (old (goal.at.returns-then-fault-ne0 c).Start) (text (goal.at.returns-then-fault-ne0 c).Start) (λ z. c.if-fault-ne0.true (e ∙ sym f ∙ z))))
+    let f = by-ahead s ∙ first_some (A s) _ (λ z. c.if-fault-ne0.true (e ∙ z)) in
+    (e ∙ sym f, sym (kept-some (F s) (old s) (text s) (λ z. c.if-fault-ne0.true (e ∙ sym f ∙ z))))
 
 pub lens_job-requires : goal.lens_job-requires
 lens_job-requires c =
-    let p = c.args.p in
+    let s = (goal.at.lens_job-requires c).Start in
+    let p = s.args.p in
     let b = lens-clear p (first-left (lens_fault p) _ (none (goal.at.lens_job-requires c).Else-fault-ne0)) in
     let f = first-right (lens_fault p) _ (none (goal.at.lens_job-requires c).Else-fault-ne0) in
-    ((b.low, b.high), words-four p.k (words (goal.at.lens_job-requires c).Start) f, words-wide p.k (words (goal.at.lens_job-requires c).Start) f)
+    ((b.low, b.high), words-four p.k (words s) f, words-wide p.k (words s) f)
 
 pub returns-then-out-n : goal.returns-then-out-n
 unfolding length_fault
 returns-then-out-n c =
-    let n : eqb (length (old (goal.at.returns-then-out-n c).Start)) (length (text (goal.at.returns-then-out-n c).Start)) ≡ _ = ne_eqb (length (old (goal.at.returns-then-out-n c).Start)) (length (text (goal.at.returns-then-out-n c).Start)) (λ e. c.if-out-n.true (e ∙ sym (size (goal.at.returns-then-out-n c).After-put_job-n))) in
-    let f = by-ahead (goal.at.returns-then-out-n c).Start ∙ first-none (A (goal.at.returns-then-out-n c).Start) _ (none (goal.at.returns-then-out-n c).Else-fault-ne0) ∙ unless-no (eqb (length (old (goal.at.returns-then-out-n c).Start)) (length (text (goal.at.returns-then-out-n c).Start))) 2 n in
-    (sym f, sym (kept-some (F (goal.at.returns-then-out-n c).Start) (old (goal.at.returns-then-out-n c).Start) (text (goal.at.returns-then-out-n c).Start) (λ (z : F (goal.at.returns-then-out-n c).Start ≡ 0). (let q : 2 ≡ 0 = sym f ∙ z in omega arith))))
+    let j = (goal.at.returns-then-out-n c).After-put_job-n in
+    let s = (goal.at.After-put_job-n j).Start in
+    let n : eqb (length (old s)) (length (text s)) ≡ _ = ne_eqb (length (old s)) (length (text s)) (λ e. c.if-out-n.true (e ∙ sym (size j))) in
+    let f = by-ahead s ∙ first-none (A s) _ (none (goal.at.After-put_job-n j).Else-fault-ne0) ∙ unless-no (eqb (length (old s)) (length (text s))) 2 n in
+    (sym f, sym (kept-some (F s) (old s) (text s) (λ (z : F s ≡ 0). (let q : 2 ≡ 0 = sym f ∙ z in omega arith))))
 
 pub slice_bounds-put_bytes-end : goal.slice_bounds-put_bytes-end
-slice_bounds-put_bytes-end c = size (goal.at.slice_bounds-put_bytes-end c).After-put_job-n ∙ sym (ap length (front (goal.at.slice_bounds-put_bytes-end c).After-put_job-n))
+slice_bounds-put_bytes-end c =
+    let j = (goal.at.slice_bounds-put_bytes-end c).After-put_job-n in
+    size j ∙ sym (ap length (front j))
 
 pub put_bytes-requires : goal.put_bytes-requires
-put_bytes-requires c = omega (arith, ap length (front (goal.at.put_bytes-requires c).After-put_job-n), size (goal.at.put_bytes-requires c).After-put_job-n, c.if-out-n.false)
+put_bytes-requires c =
+    let j = (goal.at.put_bytes-requires c).After-put_job-n in
+    omega (arith, ap length (front j), size j, c.if-out-n.false)
 
 pub returns : goal.returns
 returns c =
-    let fit : length (old (goal.at.returns c).Start) ≡ length (text (goal.at.returns c).Start) = c.if-out-n.false ∙ size (goal.at.returns c).After-put_job-n in
-    let f = by-ahead (goal.at.returns c).Start ∙ first-none (A (goal.at.returns c).Start) _ (none (goal.at.returns c).Else-fault-ne0) ∙ clear-length (length (text (goal.at.returns c).Start)) (length (old (goal.at.returns c).Start)) fit in (
+    let p = (goal.at.returns c).After-put_bytes in
+    let r = (goal.at.After-put_bytes p).After-room-3-1 in
+    let j = (goal.at.After-room-3-1 r).After-put_job-n in
+    let s = (goal.at.After-put_job-n j).Start in
+    let fit : length (old s) ≡ length (text s) = r.if-out-n.false ∙ size j in
+    let f = by-ahead s ∙ first-none (A s) _ (none (goal.at.After-put_job-n j).Else-fault-ne0) ∙ clear-length (length (text s)) (length (old s)) fit in (
       sym f,
-      c.put_bytes.ensures.0
-          ∙ ap (λ (t : List ℕ). written 0 t (old (goal.at.returns c).Start)) (front (goal.at.returns c).After-put_job-n)
-          ∙ written-whole (old (goal.at.returns c).Start) (text (goal.at.returns c).Start) fit
-          ∙ sym (kept-none (F (goal.at.returns c).Start) (old (goal.at.returns c).Start) (text (goal.at.returns c).Start) f),
+      p.put_bytes.ensures.0
+          ∙ ap (λ (t : List ℕ). written 0 t (old s)) (front j)
+          ∙ written-whole (old s) (text s) fit
+          ∙ sym (kept-none (F s) (old s) (text s) f),
     )

@@ -6,6 +6,7 @@ use Prim.Native.Nat.{◌-◌, ◌≤◌}
 use Rattle.level.specs.Interpolation.{Newton, newton_of, gather_lanes}
 use Rattle.level.proofs.Turns.{gather-start, gather-turn, gather-end}
 use Rattle.level.proofs.gather.Goals as goal
+use Rattle.level.proofs.gather.Goals.{At-loop-i}
 
 pub loop-i-init : goal.loop-i-init
 loop-i-init c =
@@ -13,7 +14,9 @@ loop-i-init c =
     (omega arith, gather-start a.d a.xs a.t a.trusted a.m _)
 
 pub trust-n-requires : goal.trust-n-requires
-trust-n-requires c = ((omega arith, omega arith), omega arith, omega (arith, c.loop-i.invariant.0))
+trust-n-requires c =
+    let l = (goal.at.trust-n-requires c).At-loop-i in
+    ((omega arith, omega arith), omega arith, omega (arith, l.loop-i.invariant.0))
 
 pub loop-i-preserved : goal.loop-i-preserved
 loop-i-preserved c =
@@ -23,7 +26,8 @@ loop-i-preserved c =
 
 pub returns : goal.returns
 returns c =
-    let a = c.args in
-    let v = c.loop-i.invariant in
-    let e = gather-end a.d a.xs a.t a.trusted a.m a.gap.now c.loop-i.i c.spread-nodal.ensures (omega arith) v.1 in
+    let l = (goal.at.returns c).At-loop-i in
+    let a = l.args in
+    let v = l.loop-i.invariant in
+    let e = gather-end a.d a.xs a.t a.trusted a.m a.gap.now l.loop-i.i l.spread-nodal.ensures (omega arith) v.1 in
     (ap (λ (s : Newton). s.n) e, ap (λ (s : Newton). s.gap) e)

@@ -6,6 +6,7 @@ use Rattle.sliced.specs.Lane.{support_of}
 use Rattle.level.specs.KeyEquation.{Pairs, pairs_of}
 use Rattle.level.proofs.Turns.{Ran, run-start, run-turn, run_end}
 use Rattle.level.proofs.locate.Goals as goal
+use Rattle.level.proofs.locate.Goals.{After-spread-b1, At-loop-i}
 
 pub loop-i-init : goal.loop-i-init
 loop-i-init c =
@@ -24,7 +25,9 @@ loop-i-preserved c =
 
 pub returns : goal.returns
 returns c =
-    let a = c.args in
+    let l = (goal.at.returns c).At-loop-i in
+    let o = (goal.at.At-loop-i l).After-spread-b1 in
+    let a = o.args in
     c.support.ensures
     ∙ ap (λ (p : Pairs). support_of a.d p.b1)
-    (run_end a.d a.xs a.t a.m a.ys c.loop-i.i c.spread-v0.ensures c.spread-b1.ensures (omega arith) c.loop-i.invariant)
+    (run_end a.d a.xs a.t a.m a.ys l.loop-i.i o.spread-v0.ensures o.spread-b1.ensures (omega arith) l.loop-i.invariant)

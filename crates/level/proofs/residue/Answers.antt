@@ -17,10 +17,11 @@ shaped s = let h : length s.args.p ≡ 64 = omega (arith, s.well_formed) in shap
 
 pub returns : goal.returns
 returns c =
-    let a = c.args in
-    let h : length a.y ≡ 6 = omega (arith, c.well_formed) in
+    let s = (goal.at.returns c).Start in
+    let a = s.args in
+    let h : length a.y ≡ 6 = omega (arith, s.well_formed) in
     let n : a.t + 1 ≡ suc a.t = omega arith in
     c.keep.ensures
     ∙ ap (held a.d) c.difference.ensures
-    ∙ residue-by a.k a.d (omega arith) (omega arith) (suc a.t) a.p (shaped (goal.at.returns c).Start) a.x a.y c.eval-v.result h
+    ∙ residue-by a.k a.d (omega arith) (omega arith) (suc a.t) a.p (shaped s) a.x a.y c.eval-v.result h
     (c.eval-v.ensures ∙ ap (λ l. held a.d (value a.k a.d (coefs a.d l a.p) (point a.d a.x))) n)

@@ -40,9 +40,9 @@ declined s c e z =
     let n : F s ≡ 0 → ⊥ = λ x. z (sym e ∙ x) in
     (sym e, (sym (kept-some (F s) (old s) (written 0 (text s) (old s)) n), sym (kept-some (F s) (size s) (length (text s) ∷ []) n)))
 
-told : (c : After-first-fault) → let h = c.accept-accepted.result.heading in
+told : (c : After-first-fault) → let s = (goal.at.After-first-fault c).Start in let h = c.accept-accepted.result.heading in
     c.first-fault.result
-    ≡ first (length_fault 1 (length (size (goal.at.After-first-fault c).Start))) (first (unless (leb line_room (length (old (goal.at.After-first-fault c).Start))) LENGTH) (place_fault h c.args.place))
+    ≡ first (length_fault 1 (length (size s))) (first (unless (leb line_room (length (old s))) LENGTH) (place_fault h s.args.place))
 told c =
     c.first-fault.ensures
     ∙ ap₂ first c.length_fault.ensures
@@ -50,34 +50,41 @@ told c =
 
 pub returns-then-accepted-ne0 : goal.returns-then-accepted-ne0
 returns-then-accepted-ne0 c =
+    let s = (goal.at.returns-then-accepted-ne0 c).Start in
     let r = c.accept-accepted in
-    declined (goal.at.returns-then-accepted-ne0 c).Start r.result.fault
-    (line_refused (bs (goal.at.returns-then-accepted-ne0 c).Start) r.result r.ensures c.args.place (length (old (goal.at.returns-then-accepted-ne0 c).Start)) (length (size (goal.at.returns-then-accepted-ne0 c).Start)) c.if-accepted-ne0.true) c.if-accepted-ne0.true
+    declined s r.result.fault
+    (line_refused (bs s) r.result r.ensures s.args.place (length (old s)) (length (size s)) c.if-accepted-ne0.true) c.if-accepted-ne0.true
 
 pub returns-then-fault-ne0 : goal.returns-then-fault-ne0
 returns-then-fault-ne0 c =
+    let f = (goal.at.returns-then-fault-ne0 c).After-first-fault in
+    let s = (goal.at.After-first-fault f).Start in
     let r = c.accept-accepted in
-    declined (goal.at.returns-then-fault-ne0 c).Start c.first-fault.result
-    (line-told (bs (goal.at.returns-then-fault-ne0 c).Start) r.result r.ensures c.args.place (length (old (goal.at.returns-then-fault-ne0 c).Start)) (length (size (goal.at.returns-then-fault-ne0 c).Start)) c.if-accepted-ne0.false c.first-fault.result (told (goal.at.returns-then-fault-ne0 c).After-first-fault))
+    declined s f.first-fault.result
+    (line-told (bs s) r.result r.ensures s.args.place (length (old s)) (length (size s)) c.if-accepted-ne0.false f.first-fault.result (told f))
     c.if-fault-ne0.true
 
 pub put_line-n-requires : goal.put_line-n-requires
 put_line-n-requires c =
+    let f = (goal.at.put_line-n-requires c).After-first-fault in
+    let s = (goal.at.After-first-fault f).Start in
     let r = c.accept-accepted in
     let z = c.if-accepted-ne0.false in
     let y = c.if-fault-ne0.false in (
-      accept-none (bs (goal.at.put_line-n-requires c).Start) r.result r.ensures z,
-      accept-heading (bs (goal.at.put_line-n-requires c).Start) r.result r.ensures z,
-      accept-files (bs (goal.at.put_line-n-requires c).Start) r.result r.ensures z,
-      line-place (bs (goal.at.put_line-n-requires c).Start) r.result r.ensures c.args.place (length (old (goal.at.put_line-n-requires c).Start)) (length (size (goal.at.put_line-n-requires c).Start)) z c.first-fault.result (told (goal.at.put_line-n-requires c).After-first-fault) y,
-      line-fits (bs (goal.at.put_line-n-requires c).Start) r.result r.ensures c.args.place (length (old (goal.at.put_line-n-requires c).Start)) (length (size (goal.at.put_line-n-requires c).Start)) z c.first-fault.result (told (goal.at.put_line-n-requires c).After-first-fault) y,
+      accept-none (bs s) r.result r.ensures z,
+      accept-heading (bs s) r.result r.ensures z,
+      accept-files (bs s) r.result r.ensures z,
+      line-place (bs s) r.result r.ensures s.args.place (length (old s)) (length (size s)) z f.first-fault.result (told f) y,
+      line-fits (bs s) r.result r.ensures s.args.place (length (old s)) (length (size s)) z f.first-fault.result (told f) y,
     )
 
 -- the output of one word
 one : (c : After-slice_known-3-1) → length (size (goal.at.After-slice_known-3-1 c).Start) ≡ 1
 one c =
+    let f = (goal.at.After-slice_known-3-1 c).After-first-fault in
+    let s = (goal.at.After-first-fault f).Start in
     let r = c.accept-accepted in
-    line-size (bs (goal.at.After-slice_known-3-1 c).Start) r.result r.ensures c.args.place (length (old (goal.at.After-slice_known-3-1 c).Start)) (length (size (goal.at.After-slice_known-3-1 c).Start)) c.if-accepted-ne0.false c.first-fault.result (told (goal.at.After-slice_known-3-1 c).After-first-fault)
+    line-size (bs s) r.result r.ensures s.args.place (length (old s)) (length (size s)) c.if-accepted-ne0.false f.first-fault.result (told f)
     c.if-fault-ne0.false
 
 pub bounds-size-0 : goal.bounds-size-0
@@ -85,13 +92,15 @@ bounds-size-0 c = let o = one c in search rules
 
 pub returns : goal.returns
 returns c =
+    let f = (goal.at.returns c).After-first-fault in
+    let s = (goal.at.After-first-fault f).Start in
     let r = c.accept-accepted in
-    let e = line-told (bs (goal.at.returns c).Start) r.result r.ensures c.args.place (length (old (goal.at.returns c).Start)) (length (size (goal.at.returns c).Start)) c.if-accepted-ne0.false c.first-fault.result (told (goal.at.returns c).After-first-fault)
+    let e = line-told (bs s) r.result r.ensures s.args.place (length (old s)) (length (size s)) c.if-accepted-ne0.false f.first-fault.result (told f)
     ∙ c.if-fault-ne0.false in
     let p = c.put_line-n in (
       sym e,
       (
-        p.ensures.0 ∙ sym (kept-none (F (goal.at.returns c).Start) (old (goal.at.returns c).Start) (written 0 (text (goal.at.returns c).Start) (old (goal.at.returns c).Start)) e),
-        set_single (size (goal.at.returns c).Start) _ (one c) ∙ ap (λ (x : ℕ). x ∷ []) p.ensures.1 ∙ sym (kept-none (F (goal.at.returns c).Start) (size (goal.at.returns c).Start) (length (text (goal.at.returns c).Start) ∷ []) e),
+        p.ensures.0 ∙ sym (kept-none (F s) (old s) (written 0 (text s) (old s)) e),
+        set_single (size s) _ (one c) ∙ ap (λ (x : ℕ). x ∷ []) p.ensures.1 ∙ sym (kept-none (F s) (size s) (length (text s) ∷ []) e),
       ),
     )

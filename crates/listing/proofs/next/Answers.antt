@@ -14,12 +14,15 @@ abbrev bs : Start → List ℕ
 bs s = s.args.bytes.now
 
 pub put_piece-size-requires : goal.put_piece-size-requires
-put_piece-size-requires c = (printer-accepted (bs (goal.at.put_piece-size-requires c).Start) c.args.printer c.requires.0, c.requires.1)
+put_piece-size-requires c =
+    let s = (goal.at.put_piece-size-requires c).Start in
+    (printer-accepted (bs s) s.args.printer s.requires.0, s.requires.1)
 
 pub returns-then-size-eq0 : goal.returns-then-size-eq0
 returns-then-size-eq0 c =
+    let s = (goal.at.returns-then-size-eq0 c).Start in
     let p = c.put_piece-size in
-    (p.ensures.0, p.ensures.1, p.ensures.2, printer-stays (bs (goal.at.returns-then-size-eq0 c).Start) c.args.printer c.requires.0 (sym p.ensures.1 ∙ c.if-size-eq0.true))
+    (p.ensures.0, p.ensures.1, p.ensures.2, printer-stays (bs s) s.args.printer s.requires.0 (sym p.ensures.1 ∙ c.if-size-eq0.true))
 
 some : (c : After-struct_known-1) → length (piece (bs (goal.at.After-struct_known-1 c).Start) c.args.printer.next) ≡ 0 → ⊥
 some c z = c.if-size-eq0.false (c.put_piece-size.ensures.1 ∙ z)

@@ -44,26 +44,30 @@ place_opening-opened-requires c = (c.requires.0, c.requires.1, c.requires.2, c.r
 
 pub returns-then-opened-ne0 : goal.returns-then-opened-ne0
 returns-then-opened-ne0 c =
-    let o = c.place_opening-opened in
-    let n = c.job_number-number in
-    wrote-line c.args.out.now _ (line_of (bs (goal.at.returns-then-opened-ne0 c).Start) c.args.place) (declined_line (number (goal.at.returns-then-opened-ne0 c).After-place_opening-opened) o.result.fault)
+    let a = (goal.at.returns-then-opened-ne0 c).After-place_opening-opened in
+    let s = (goal.at.After-place_opening-opened a).Start in
+    let o = a.place_opening-opened in
+    let n = a.job_number-number in
+    wrote-line s.args.out.now _ (line_of (bs s) s.args.place) (declined_line (number a) o.result.fault)
     c.put_declined_line.result
-    (declined-line (bs (goal.at.returns-then-opened-ne0 c).Start) c.args.place c.args.h c.requires.1 (number (goal.at.returns-then-opened-ne0 c).After-place_opening-opened) n.ensures o.result.fault o.result.wrong (rows (goal.at.returns-then-opened-ne0 c).After-place_opening-opened)
+    (declined-line (bs s) s.args.place s.args.h s.requires.1 (number a) n.ensures o.result.fault o.result.wrong (rows a)
     o.ensures.0 o.ensures.1.0 c.if-opened-ne0.true)
-    c.put_declined_line.ensures (declined-length (number (goal.at.returns-then-opened-ne0 c).After-place_opening-opened) o.result.fault (omega arith) (omega arith))
+    c.put_declined_line.ensures (declined-length (number a) o.result.fault (omega arith) (omega arith))
 
 pub lowest_bits-requires : goal.lowest_bits-requires
 lowest_bits-requires c =
-    let h = c.args.h in
-    let o = c.place_opening-opened in
-    let k = askable (bs (goal.at.lowest_bits-requires c).Start) h c.requires.1 c.args.files c.requires.2 c.requires.0 (shares (goal.at.lowest_bits-requires c).After-place_opening-opened) in (
+    let a = (goal.at.lowest_bits-requires c).After-place_opening-opened in
+    let s = (goal.at.After-place_opening-opened a).Start in
+    let h = s.args.h in
+    let o = a.place_opening-opened in
+    let k = askable (bs s) h s.requires.1 s.args.files s.requires.2 s.requires.0 (shares a) in (
       k.0,
       k.1,
-      rw (arrays (bs (goal.at.lowest_bits-requires c).Start) h c.requires.1 c.args.files c.requires.2 _ (shares (goal.at.lowest_bits-requires c).After-place_opening-opened) c.load_holders-holders.ensures) k.2,
+      rw (arrays (bs s) h s.requires.1 s.args.files s.requires.2 _ (shares a) a.load_holders-holders.ensures) k.2,
       o.ensures.1.1.1,
       search rules,
       rw o.ensures.1.1.0
-          (set_is (bs (goal.at.lowest_bits-requires c).Start) c.args.place h c.requires.1 (number (goal.at.lowest_bits-requires c).After-place_opening-opened) c.job_number-number.ensures o.result.fault o.result.wrong (rows (goal.at.lowest_bits-requires c).After-place_opening-opened)
+          (set_is (bs s) s.args.place h s.requires.1 (number a) a.job_number-number.ensures o.result.fault o.result.wrong (rows a)
           o.ensures.0 o.ensures.1.0 c.if-opened-ne0.false o.ensures.1.1.1),
     )
 
@@ -71,35 +75,41 @@ abbrev lowest : After-lowest_bits → List ℕ
 lowest f = f.lowest_bits.new.lowest
 
 found : (f : After-lowest_bits) →
-    let p = f.args.h.params in lowest f ≡ positions p.k p.d (poly (goal.at.After-lowest_bits f).After-place_opening-opened) (shares_at (bs (goal.at.After-lowest_bits f).Start) f.args.place)
+    let s = (goal.at.After-lowest_bits f).Start in let p = s.args.h.params in lowest f ≡ positions p.k p.d (poly (goal.at.After-lowest_bits f).After-place_opening-opened) (shares_at (bs s) s.args.place)
 found f = rw f.place_opening-opened.ensures.shares at f.lowest_bits.ensures
 
 pub put_open_line-requires : goal.put_open_line-requires
 put_open_line-requires c =
-    let o = c.place_opening-opened in
-    let p = c.args.h.params in
-    let k = (known (goal.at.put_open_line-requires c).Start).book in (
+    let f = (goal.at.put_open_line-requires c).After-lowest_bits in
+    let a = (goal.at.After-lowest_bits f).After-place_opening-opened in
+    let s = (goal.at.After-place_opening-opened a).Start in
+    let o = a.place_opening-opened in
+    let p = s.args.h.params in
+    let k = (known s).book in (
       (k.k-low, k.k-high),
       (omega (arith, k.d-low), k.d-high),
-      narrow (bs (goal.at.put_open_line-requires c).Start) c.args.place c.args.h c.requires.1 (number (goal.at.put_open_line-requires c).After-place_opening-opened) c.job_number-number.ensures o.result.fault o.result.wrong (rows (goal.at.put_open_line-requires c).After-place_opening-opened)
-          o.ensures.0 o.ensures.1.0 c.if-opened-ne0.false o.ensures.1.1.1,
-      ap length (found (goal.at.put_open_line-requires c).After-lowest_bits) ∙ positions-length p.k p.d (poly (goal.at.put_open_line-requires c).After-place_opening-opened) (shares_at (bs (goal.at.put_open_line-requires c).Start) c.args.place),
-      c.requires.4,
+      narrow (bs s) s.args.place s.args.h s.requires.1 (number a) a.job_number-number.ensures o.result.fault o.result.wrong (rows a)
+          o.ensures.0 o.ensures.1.0 f.if-opened-ne0.false o.ensures.1.1.1,
+      ap length (found f) ∙ positions-length p.k p.d (poly a) (shares_at (bs s) s.args.place),
+      s.requires.4,
     )
 
 pub returns : goal.returns
 returns c =
-    let o = c.place_opening-opened in
-    let n = c.job_number-number in
-    let h = c.args.h in
+    let f = (goal.at.returns c).After-lowest_bits in
+    let a = (goal.at.After-lowest_bits f).After-place_opening-opened in
+    let s = (goal.at.After-place_opening-opened a).Start in
+    let o = a.place_opening-opened in
+    let n = a.job_number-number in
+    let h = s.args.h in
     let p = h.params in
-    let k = (known (goal.at.returns c).Start).book in
-    let row = get_or (rows (goal.at.returns c).After-place_opening-opened) 0 [] in
+    let k = (known s).book in
+    let row = get_or (rows a) 0 [] in
     let m : length (take p.d row) ≤ 6 = rw (length-take p.d row) (omega (arith, k.d-high)) in
-    wrote-line c.args.out.now _ (line_of (bs (goal.at.returns c).Start) c.args.place) (open_line (number (goal.at.returns c).After-place_opening-opened) o.result.wrong (lowest (goal.at.returns c).After-lowest_bits) (readings p.k p.d row))
+    wrote-line s.args.out.now _ (line_of (bs s) s.args.place) (open_line (number a) o.result.wrong (lowest f) (readings p.k p.d row))
     c.put_open_line.result
-    (open-line (bs (goal.at.returns c).Start) c.args.place h c.requires.1 (number (goal.at.returns c).After-place_opening-opened) n.ensures o.result.fault o.result.wrong (rows (goal.at.returns c).After-place_opening-opened)
-    o.ensures.0 o.ensures.1.0 c.if-opened-ne0.false o.ensures.1.1.1 (lowest (goal.at.returns c).After-lowest_bits) (found (goal.at.returns c).After-lowest_bits))
+    (open-line (bs s) s.args.place h s.requires.1 (number a) n.ensures o.result.fault o.result.wrong (rows a)
+    o.ensures.0 o.ensures.1.0 f.if-opened-ne0.false o.ensures.1.1.1 (lowest f) (found f))
     c.put_open_line.ensures
-    (open-length (number (goal.at.returns c).After-place_opening-opened) o.result.wrong (lowest (goal.at.returns c).After-lowest_bits) p.k (take p.d row) (omega arith)
-    (rw (found (goal.at.returns c).After-lowest_bits) (positions-bytes p.k p.d (poly (goal.at.returns c).After-place_opening-opened) (shares_at (bs (goal.at.returns c).Start) c.args.place))) k.k-high m)
+    (open-length (number a) o.result.wrong (lowest f) p.k (take p.d row) (omega arith)
+    (rw (found f) (positions-bytes p.k p.d (poly a) (shares_at (bs s) s.args.place))) k.k-high m)

@@ -23,50 +23,56 @@ old s = s.args.line.now
 
 pub returns-then-i-eq0 : goal.returns-then-i-eq0
 returns-then-i-eq0 c =
-    let a = c.args.accepted in
+    let s = (goal.at.returns-then-i-eq0 c).Start in
+    let a = s.args.accepted in
     let p = c.Put-refused in
-    wrote-line (old (goal.at.returns-then-i-eq0 c).Start) _ (piece (bs (goal.at.returns-then-i-eq0 c).Start) c.args.i) (refused_line a.fault) p.result
-    (piece-refused (bs (goal.at.returns-then-i-eq0 c).Start) a c.requires.0 c.if-accepted-ne0.true c.args.i
+    wrote-line (old s) _ (piece (bs s) s.args.i) (refused_line a.fault) p.result
+    (piece-refused (bs s) a s.requires.0 c.if-accepted-ne0.true s.args.i
     c.if-i-eq0.true)
     p.ensures (refused-length a.fault (omega arith))
 
 pub returns-then-accepted-ne0 : goal.returns-then-accepted-ne0
 returns-then-accepted-ne0 c =
-    let a = c.args.accepted in
-    wrote_none (old (goal.at.returns-then-accepted-ne0 c).Start) (piece (bs (goal.at.returns-then-accepted-ne0 c).Start) c.args.i)
-    (piece-refused-end (bs (goal.at.returns-then-accepted-ne0 c).Start) a c.requires.0 c.if-accepted-ne0.true c.args.i c.if-i-eq0.false)
+    let s = (goal.at.returns-then-accepted-ne0 c).Start in
+    let a = s.args.accepted in
+    wrote_none (old s) (piece (bs s) s.args.i)
+    (piece-refused-end (bs s) a s.requires.0 c.if-accepted-ne0.true s.args.i c.if-i-eq0.false)
 
 pub returns-then-i-eq0-2 : goal.returns-then-i-eq0-2
 returns-then-i-eq0-2 c =
-    let a = c.args.accepted in
+    let s = (goal.at.returns-then-i-eq0-2 c).Start in
+    let a = s.args.accepted in
     let p = c.put_head in
-    wrote-line (old (goal.at.returns-then-i-eq0-2 c).Start) _ (piece (bs (goal.at.returns-then-i-eq0-2 c).Start) c.args.i) head_line p.result
-    (piece-head (bs (goal.at.returns-then-i-eq0-2 c).Start) a c.requires.0 c.if-accepted-ne0.false c.args.i
+    wrote-line (old s) _ (piece (bs s) s.args.i) head_line p.result
+    (piece-head (bs s) a s.requires.0 c.if-accepted-ne0.false s.args.i
     c.if-i-eq0-2.true)
     p.ensures (omega arith)
 
 pub returns-then-h-i : goal.returns-then-h-i
 returns-then-h-i c =
-    let a = c.args.accepted in
-    wrote_none (old (goal.at.returns-then-h-i c).Start) (piece (bs (goal.at.returns-then-h-i c).Start) c.args.i)
-    (piece-end (bs (goal.at.returns-then-h-i c).Start) a c.requires.0 c.if-accepted-ne0.false c.args.i c.if-h-i.true)
+    let s = (goal.at.returns-then-h-i c).Start in
+    let a = s.args.accepted in
+    wrote_none (old s) (piece (bs s) s.args.i)
+    (piece-end (bs s) a s.requires.0 c.if-accepted-ne0.false s.args.i c.if-h-i.true)
 
 pub put_line-requires : goal.put_line-requires
 put_line-requires c =
-    let a = c.args.accepted in
+    let s = (goal.at.put_line-requires c).Start in
+    let a = s.args.accepted in
     let z = c.if-accepted-ne0.false in (
-      input_none (bs (goal.at.put_line-requires c).Start) a c.requires.0 z,
-      input-heading (bs (goal.at.put_line-requires c).Start) a c.requires.0 z,
-      input-files (bs (goal.at.put_line-requires c).Start) a c.requires.0 z,
+      input_none (bs s) a s.requires.0 z,
+      input-heading (bs s) a s.requires.0 z,
+      input-files (bs s) a s.requires.0 z,
       omega (arith, c.if-h-i.false, c.if-i-eq0-2.false),
-      c.requires.1,
+      s.requires.1,
     )
 
 pub returns : goal.returns
 returns c =
-    let a = c.args.accepted in
+    let s = (goal.at.returns c).Start in
+    let a = s.args.accepted in
     let p = c.put_line in
     let e =
-    piece-line (bs (goal.at.returns c).Start) a c.requires.0 c.if-accepted-ne0.false c.args.i
+    piece-line (bs s) a s.requires.0 c.if-accepted-ne0.false s.args.i
     c.if-i-eq0-2.false (omega (arith, c.if-h-i.false)) in
-    (p.ensures.0 ∙ ap (λ (t : List ℕ). written 0 t (old (goal.at.returns c).Start)) (sym e), p.ensures.1 ∙ ap length (sym e), p.ensures.2)
+    (p.ensures.0 ∙ ap (λ (t : List ℕ). written 0 t (old s)) (sym e), p.ensures.1 ∙ ap length (sym e), p.ensures.2)

@@ -16,7 +16,7 @@ use Rattle.bundle.proofs.Bundles.{accept-fault, accept-none, accept-files, accep
 use Rattle.mending.specs.Mended.{mended, mend_fault}
 use Rattle.mending.proofs.Mended.{mended-start}
 use Rattle.mending.proofs.mend.Goals as goal
-use Rattle.mending.proofs.mend.Goals.{After-accept-accepted, After-struct_known-1, Else-accepted-ne0, Else-out-bytes}
+use Rattle.mending.proofs.mend.Goals.{After-accept-accepted, After-out-1, After-put_bytes-arg-1, After-struct_known-1, Else-accepted-ne0, Else-out-bytes}
 
 -- bytes written over others, as many
 copied : (bs out : List ℕ) → length out ≡ length bs → take 0 out ++ (bs ++ drop (0 + length bs) out) ≡ bs
@@ -35,9 +35,10 @@ declined c r n e = (sym e, sym (kept-some _ (out c) _ (λ z. n (sym e ∙ z))))
 
 pub returns-then-accepted-ne0 : goal.returns-then-accepted-ne0
 returns-then-accepted-ne0 c =
-    let r = c.accept-accepted in
-    let e = accept-fault (bs (goal.at.returns-then-accepted-ne0 c).After-accept-accepted) r.result r.ensures in
-    declined (goal.at.returns-then-accepted-ne0 c).After-accept-accepted r.result.fault c.if-accepted-ne0.true (by-bundle (bs (goal.at.returns-then-accepted-ne0 c).After-accept-accepted) (length (out (goal.at.returns-then-accepted-ne0 c).After-accept-accepted)) (λ z. c.if-accepted-ne0.true (e ∙ z)) ∙ sym e)
+    let a = (goal.at.returns-then-accepted-ne0 c).After-accept-accepted in
+    let r = a.accept-accepted in
+    let e = accept-fault (bs a) r.result r.ensures in
+    declined a r.result.fault c.if-accepted-ne0.true (by-bundle (bs a) (length (out a)) (λ z. c.if-accepted-ne0.true (e ∙ z)) ∙ sym e)
 
 -- it is accepted
 fine : (c : Else-accepted-ne0) → bundle_fault (bs (goal.at.Else-accepted-ne0 c).After-accept-accepted) ≡ 0
@@ -45,21 +46,28 @@ fine c = let r = c.accept-accepted in accept-none (bs (goal.at.Else-accepted-ne0
 
 pub returns-then-out-bytes : goal.returns-then-out-bytes
 returns-then-out-bytes c =
-    declined (goal.at.returns-then-out-bytes c).After-accept-accepted LENGTH (λ z. omega arith)
-    (by_length (bs (goal.at.returns-then-out-bytes c).After-accept-accepted) (length (out (goal.at.returns-then-out-bytes c).After-accept-accepted)) (fine (goal.at.returns-then-out-bytes c).Else-accepted-ne0) ∙ unless-no _ LENGTH (ne_eqb _ _ c.if-out-bytes.true))
+    let a = (goal.at.returns-then-out-bytes c).After-accept-accepted in
+    declined a LENGTH (λ z. omega arith)
+    (by_length (bs a) (length (out a)) (fine (goal.at.returns-then-out-bytes c).Else-accepted-ne0) ∙ unless-no _ LENGTH (ne_eqb _ _ c.if-out-bytes.true))
 
 pub mend_jobs-requires : goal.mend_jobs-requires
 mend_jobs-requires c =
-    let r = c.accept-accepted in
-    let b : Bytes (bs (goal.at.mend_jobs-requires c).After-struct_known-1) = λ i. (c.shared_slice_known-1.given i).fits in (
-      fine (goal.at.mend_jobs-requires c).Else-out-bytes,
-      accept-heading (bs (goal.at.mend_jobs-requires c).After-struct_known-1) r.result r.ensures c.if-accepted-ne0.false,
-      accept-files (bs (goal.at.mend_jobs-requires c).After-struct_known-1) r.result r.ensures c.if-accepted-ne0.false,
-      c.put_bytes.ensures ∙ copied (bs (goal.at.mend_jobs-requires c).After-struct_known-1) (out (goal.at.mend_jobs-requires c).After-struct_known-1) c.if-out-bytes.false ∙ sym (mended-start (bs (goal.at.mend_jobs-requires c).After-struct_known-1) (fine (goal.at.mend_jobs-requires c).Else-out-bytes) b),
+    let p = (goal.at.mend_jobs-requires c).After-out-1 in
+    let f = (goal.at.After-out-1 p).Else-out-bytes in
+    let a = (goal.at.Else-out-bytes f).After-struct_known-1 in
+    let r = a.accept-accepted in
+    let b : Bytes (bs a) = λ i. (a.shared_slice_known-1.given i).fits in (
+      fine f,
+      accept-heading (bs a) r.result r.ensures f.if-accepted-ne0.false,
+      accept-files (bs a) r.result r.ensures f.if-accepted-ne0.false,
+      p.put_bytes.ensures ∙ copied (bs a) (out a) p.if-out-bytes.false ∙ sym (mended-start (bs a) (fine f) b),
     )
 
 pub returns : goal.returns
 returns c =
-    let e : mend_fault (bs (goal.at.returns c).After-struct_known-1) (length (out (goal.at.returns c).After-struct_known-1)) ≡ 0 =
-    by_length (bs (goal.at.returns c).After-struct_known-1) (length (out (goal.at.returns c).After-struct_known-1)) (fine (goal.at.returns c).Else-out-bytes) ∙ unless-yes _ LENGTH (eq-eqb _ _ c.if-out-bytes.false) in
-    (sym e, c.mend_jobs.ensures ∙ sym (kept-none _ (out (goal.at.returns c).After-struct_known-1) _ e))
+    let o = (goal.at.returns c).After-put_bytes-arg-1 in
+    let f = (goal.at.After-put_bytes-arg-1 o).Else-out-bytes in
+    let a = (goal.at.Else-out-bytes f).After-struct_known-1 in
+    let e : mend_fault (bs a) (length (out a)) ≡ 0 =
+    by_length (bs a) (length (out a)) (fine f) ∙ unless-yes _ LENGTH (eq-eqb _ _ o.if-out-bytes.false) in
+    (sym e, c.mend_jobs.ensures ∙ sym (kept-none _ (out a) _ e))

@@ -22,21 +22,25 @@ are-bytes : (c : After-file_holder-holder) → Bytes (bs (goal.at.After-file_hol
 are-bytes c i = (c.shared_slice_known-1.given i).fits
 
 few : (c : After-file_holder-holder) → (1 ≤ c.file_holder-holder.result) × (c.file_holder-holder.result ≤ 63)
-few c = holder-few (bs (goal.at.After-file_holder-holder c).Start) c.requires.0 c.args.h c.requires.1 c.args.f c.file_holder-holder.result c.requires.2 c.file_holder-holder.ensures
+few c =
+    let s = (goal.at.After-file_holder-holder c).Start in
+    holder-few (bs s) s.requires.0 s.args.h s.requires.1 s.args.f c.file_holder-holder.result s.requires.2 c.file_holder-holder.ensures
 
 -- the job's words are within the bytes
 within : (c : After-job_at) → c.job_at.result + 6 + 8 + 8 * c.args.h.params.d ≤ length (bs (goal.at.After-job_at c).Start)
 unfolding job_len_of word_size
 within c =
+    let s = (goal.at.After-job_at c).Start in
     omega (
       arith,
-      job-fits (bs (goal.at.After-job_at c).Start) c.requires.0 c.args.h c.requires.1 c.args.f c.requires.2 c.args.place c.job_at.result c.requires.3
+      job-fits (bs s) s.requires.0 s.args.h s.requires.1 s.args.f s.requires.2 s.args.place c.job_at.result s.requires.3
           c.job_at.ensures,
     )
 
 room : (c : After-job_at) → c.job_at.result + 6 + 8 + 8 * c.args.h.params.d ≤ length c.args.out.now
 room c =
-    let n = ap length c.requires.6 ∙ mended-length (bs (goal.at.After-job_at c).Start) c.requires.0 (are-bytes (goal.at.After-job_at c).After-file_holder-holder) c.args.place c.args.f in
+    let s = (goal.at.After-job_at c).Start in
+    let n = ap length s.requires.6 ∙ mended-length (bs s) s.requires.0 (are-bytes (goal.at.After-job_at c).After-file_holder-holder) s.args.place s.args.f in
     omega (arith, n, within c)
 
 -- the value's array has them
@@ -45,7 +49,8 @@ D c = c.args.h.params.d
 
 long : (c : After-value_at-words) → D c ≤ length c.value_at-words.result
 long c =
-    let a = value-asks (bs (goal.at.After-value_at-words c).Start) c.requires.0 c.args.h c.requires.1 in
+    let s = (goal.at.After-value_at-words c).Start in
+    let a = value-asks (bs s) s.requires.0 s.args.h s.requires.1 in
     search rules
 
 pub names-requires : goal.names-requires
@@ -53,13 +58,17 @@ names-requires c = few c
 
 pub returns-then-not-names : goal.returns-then-not-names
 returns-then-not-names c =
-    c.requires.6
-    ∙ turn-left (bs (goal.at.returns-then-not-names c).Start) c.requires.0 c.args.h c.requires.1 c.args.f c.file_holder-holder.result c.requires.2 c.file_holder-holder.ensures
-    (are-bytes (goal.at.returns-then-not-names c).After-file_holder-holder) c.args.place c.args.opened.wrong c.requires.5
+    let o = (goal.at.returns-then-not-names c).After-file_holder-holder in
+    let s = (goal.at.After-file_holder-holder o).Start in
+    s.requires.6
+    ∙ turn-left (bs s) s.requires.0 s.args.h s.requires.1 s.args.f o.file_holder-holder.result s.requires.2 o.file_holder-holder.ensures
+    (are-bytes o) s.args.place s.args.opened.wrong s.requires.5
     (bit-clear _ (sym c.names.ensures ∙ not-true _ c.if-not-names.true))
 
 pub job_at-requires : goal.job_at-requires
-job_at-requires c = job-asks (bs (goal.at.job_at-requires c).Start) c.requires.0 c.args.h c.requires.1 c.args.f c.requires.2 c.args.place (omega (arith, c.requires.3))
+job_at-requires c =
+    let s = (goal.at.job_at-requires c).Start in
+    job-asks (bs s) s.requires.0 s.args.h s.requires.1 s.args.f s.requires.2 s.args.place (omega (arith, s.requires.3))
 
 pub overflow_add-at : goal.overflow_add-at
 overflow_add-at c = omega (arith, within c, c.well_formed)
@@ -68,25 +77,31 @@ pub overflow_add-at-2 : goal.overflow_add-at-2
 overflow_add-at-2 c = omega (arith, within c, c.well_formed)
 
 pub value_at-words-requires : goal.value_at-words-requires
-value_at-words-requires c = value-asks (bs (goal.at.value_at-words-requires c).Start) c.requires.0 c.args.h c.requires.1
+value_at-words-requires c =
+    let s = (goal.at.value_at-words-requires c).Start in
+    value-asks (bs s) s.requires.0 s.args.h s.requires.1
 
 pub slice_bounds-words-end : goal.slice_bounds-words-end
 slice_bounds-words-end c = long (goal.at.slice_bounds-words-end c).After-value_at-words
 
 pub slice_bounds-put_words-end : goal.slice_bounds-put_words-end
-slice_bounds-put_words-end c = sym (length-take-le (D (goal.at.slice_bounds-put_words-end c).After-value_at-words) c.value_at-words.result (long (goal.at.slice_bounds-put_words-end c).After-value_at-words))
+slice_bounds-put_words-end c = let v = (goal.at.slice_bounds-put_words-end c).After-value_at-words in sym (length-take-le (D v) v.value_at-words.result (long v))
 
 pub put_words-requires : goal.put_words-requires
 put_words-requires c =
-    let n = length-take-le (D (goal.at.put_words-requires c).After-value_at-words) c.value_at-words.result (long (goal.at.put_words-requires c).After-value_at-words) in
-    (room (goal.at.put_words-requires c).After-job_at, omega (arith, n))
+    let v = (goal.at.put_words-requires c).After-value_at-words in
+    let n = length-take-le (D v) v.value_at-words.result (long v) in
+    (room (goal.at.After-value_at-words v).After-job_at, omega (arith, n))
 
 pub returns : goal.returns
 returns c =
+    let a = (goal.at.returns c).After-job_at in
+    let o = (goal.at.After-job_at a).After-file_holder-holder in
+    let s = (goal.at.After-file_holder-holder o).Start in
     let v = c.value_at-words in
-    turn-put (bs (goal.at.returns c).Start) c.requires.0 c.args.h c.requires.1 c.args.f c.file_holder-holder.result c.requires.2 c.file_holder-holder.ensures
-    (are-bytes (goal.at.returns c).After-file_holder-holder) c.args.place c.args.opened.wrong c.requires.5 c.requires.3 c.args.opened.fault c.args.rows c.requires.4
-    (bit-set _ (sym c.names.ensures ∙ not-false _ c.if-not-names.false)) v.result c.job_at.result c.args.out.now c.put_words.new.out v.ensures
-    (job-spot (bs (goal.at.returns c).Start) c.requires.0 c.args.h c.requires.1 c.args.f c.requires.2 c.args.place c.job_at.result c.requires.3
-    c.job_at.ensures)
-    c.requires.6 c.put_words.ensures
+    turn-put (bs s) s.requires.0 s.args.h s.requires.1 s.args.f o.file_holder-holder.result s.requires.2 o.file_holder-holder.ensures
+    (are-bytes o) s.args.place s.args.opened.wrong s.requires.5 s.requires.3 s.args.opened.fault s.args.rows s.requires.4
+    (bit-set _ (sym a.names.ensures ∙ not-false _ a.if-not-names.false)) v.result a.job_at.result s.args.out.now c.put_words.new.out v.ensures
+    (job-spot (bs s) s.requires.0 s.args.h s.requires.1 s.args.f s.requires.2 s.args.place a.job_at.result s.requires.3
+    a.job_at.ensures)
+    s.requires.6 c.put_words.ensures

@@ -9,20 +9,23 @@ use Rattle.bundle.specs.Bundle.{files_of}
 use Rattle.mending.specs.Progress.{mended_to}
 use Rattle.mending.proofs.Mended.{mended-turn}
 use Rattle.mending.proofs.mend_files.Goals as goal
+use Rattle.mending.proofs.mend_files.Goals.{At-loop-f}
 
 pub loop-f-init : goal.loop-f-init
 loop-f-init c = (search rules, c.requires.6, refl)
 
 pub mend_file-requires : goal.mend_file-requires
 mend_file-requires c =
+    let l = (goal.at.mend_file-requires c).At-loop-f in
     let t = c.loop-f-test.true in
-    (c.requires.0, c.requires.1, omega (arith, c.requires.2, t), c.requires.3, c.requires.4, c.requires.5, c.loop-f.invariant.1)
+    (l.requires.0, l.requires.1, omega (arith, l.requires.2, t), l.requires.3, l.requires.4, l.requires.5, l.loop-f.invariant.1)
 
 pub loop-f-preserved : goal.loop-f-preserved
-loop-f-preserved c = (search rules, c.mend_file.ensures, c.mend_file.auto.1.1.1.1.1.1.0 ∙ c.loop-f.invariant.2)
+loop-f-preserved c = (search rules, c.mend_file.ensures, c.mend_file.auto.out ∙ c.loop-f.invariant.2)
 
 pub returns : goal.returns
 returns c =
-    let b : Bytes c.args.bytes.now = λ i. (c.shared_slice_known-1.given i).fits in
-    let e : c.loop-f.f ≡ files_of c.args.bytes.now = omega (arith, c.loop-f.invariant.0, c.loop-f-test.false, c.requires.2) in
-    c.loop-f.invariant.1 ∙ ap (mended_to c.args.bytes.now c.args.place) e ∙ mended-turn c.args.bytes.now c.requires.0 b c.args.place
+    let l = (goal.at.returns c).At-loop-f in
+    let b : Bytes l.args.bytes.now = λ i. (l.shared_slice_known-1.given i).fits in
+    let e : l.loop-f.f ≡ files_of l.args.bytes.now = omega (arith, l.loop-f.invariant.0, c.loop-f-test.false, l.requires.2) in
+    l.loop-f.invariant.1 ∙ ap (mended_to l.args.bytes.now l.args.place) e ∙ mended-turn l.args.bytes.now l.requires.0 b l.args.place

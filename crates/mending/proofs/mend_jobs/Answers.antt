@@ -10,12 +10,15 @@ use Rattle.bundle.specs.Bundle.{bundle_heading}
 use Rattle.mending.specs.Progress.{mended_to}
 use Rattle.mending.proofs.Mended.{mended-done}
 use Rattle.mending.proofs.mend_jobs.Goals as goal
+use Rattle.mending.proofs.mend_jobs.Goals.{At-loop-p}
 
 pub loop-p-init : goal.loop-p-init
 loop-p-init c = (search rules, c.requires.3, refl)
 
 pub mend_place-requires : goal.mend_place-requires
-mend_place-requires c = (c.requires.0, c.requires.1, c.requires.2, c.loop-p-test.true, c.loop-p.invariant.1)
+mend_place-requires c =
+    let l = (goal.at.mend_place-requires c).At-loop-p in
+    (l.requires.0, l.requires.1, l.requires.2, c.loop-p-test.true, l.loop-p.invariant.1)
 
 pub loop-p-preserved : goal.loop-p-preserved
 loop-p-preserved c =
@@ -24,7 +27,8 @@ loop-p-preserved c =
 
 pub returns : goal.returns
 returns c =
-    let b : Bytes c.args.bytes.now = λ i. (c.shared_slice_known-1.given i).fits in
-    let j : c.args.h.jobs ≡ (bundle_heading c.args.bytes.now).jobs = ap (λ (h : Heading). h.jobs) c.requires.1 in
-    let e : c.loop-p.p ≡ (bundle_heading c.args.bytes.now).jobs = omega (arith, c.loop-p.invariant.0, c.loop-p-test.false, j) in
-    c.loop-p.invariant.1 ∙ ap (λ (p : ℕ). mended_to c.args.bytes.now p 0) e ∙ mended-done c.args.bytes.now c.requires.0 b
+    let l = (goal.at.returns c).At-loop-p in
+    let b : Bytes l.args.bytes.now = λ i. (l.shared_slice_known-1.given i).fits in
+    let j : l.args.h.jobs ≡ (bundle_heading l.args.bytes.now).jobs = ap (λ (h : Heading). h.jobs) l.requires.1 in
+    let e : l.loop-p.p ≡ (bundle_heading l.args.bytes.now).jobs = omega (arith, l.loop-p.invariant.0, c.loop-p-test.false, j) in
+    l.loop-p.invariant.1 ∙ ap (λ (p : ℕ). mended_to l.args.bytes.now p 0) e ∙ mended-done l.args.bytes.now l.requires.0 b

@@ -20,8 +20,9 @@ place_opening-opened-requires c = (c.requires.0, c.requires.1, c.requires.2, c.r
 
 pub returns : goal.returns
 returns c =
-    let p = c.args.h.params in
-    let o = c.place_opening-opened in
-    let g = handed p.k p.d p.t (shares_at (bs (goal.at.returns c).After-place_opening-opened) c.args.place) o.result.fault (rows (goal.at.returns c).After-place_opening-opened) o.result.wrong
-    (place_opening (bs (goal.at.returns c).After-place_opening-opened) c.args.place) o.ensures.1.1.1 o.ensures.0 o.ensures.1.0 in
+    let a = (goal.at.returns c).After-place_opening-opened in
+    let p = a.args.h.params in
+    let o = a.place_opening-opened in
+    let g = handed p.k p.d p.t (shares_at (bs a) a.args.place) o.result.fault (rows a) o.result.wrong
+    (place_opening (bs a) a.args.place) o.ensures.1.1.1 o.ensures.0 o.ensures.1.0 in
     (g.fault, (o.ensures.1.0, c.mend_files.ensures))

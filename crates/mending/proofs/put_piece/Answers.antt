@@ -15,7 +15,7 @@ use Rattle.listing.proofs.Input.{fault-is, input_none, input-heading, input-file
 use Rattle.mending.specs.Report.{report_piece}
 use Rattle.mending.proofs.Report.{piece-accepted, piece-refused, pieces-accepted, output-next, output-refused}
 use Rattle.mending.proofs.put_piece.Goals as goal
-use Rattle.mending.proofs.put_piece.Goals.{After-shared_slice_known-1, Start}
+use Rattle.mending.proofs.put_piece.Goals.{After-put_place, After-shared_slice_known-1, Start}
 
 abbrev bs : Start → List ℕ
 bs s = s.args.bytes.now
@@ -25,34 +25,38 @@ fault s = fault-is (bs s) s.args.accepted s.requires.0
 
 pub returns-then-accepted-ne0 : goal.returns-then-accepted-ne0
 returns-then-accepted-ne0 c =
-    let f = c.args.accepted.fault in
-    let i = c.args.i in
+    let s = (goal.at.returns-then-accepted-ne0 c).Start in
+    let f = s.args.accepted.fault in
+    let i = s.args.i in
     let p = c.Put-refused in
-    let n : input_fault (bs (goal.at.returns-then-accepted-ne0 c).Start) ≡ 0 → ⊥ = λ z. c.if-accepted-ne0.true (sym (fault (goal.at.returns-then-accepted-ne0 c).Start) ∙ z) in (
-      c.requires.2 ∙ output-refused (bs (goal.at.returns-then-accepted-ne0 c).Start) i n ∙ sym (output-refused (bs (goal.at.returns-then-accepted-ne0 c).Start) (i + 1) n),
-      wrote-line c.args.text.now _ (report_piece (bs (goal.at.returns-then-accepted-ne0 c).Start) i) (refused_line f) p.result (piece-refused (bs (goal.at.returns-then-accepted-ne0 c).Start) i n ∙ ap refused_line (fault (goal.at.returns-then-accepted-ne0 c).Start))
+    let n : input_fault (bs s) ≡ 0 → ⊥ = λ z. c.if-accepted-ne0.true (sym (fault s) ∙ z) in (
+      s.requires.2 ∙ output-refused (bs s) i n ∙ sym (output-refused (bs s) (i + 1) n),
+      wrote-line s.args.text.now _ (report_piece (bs s) i) (refused_line f) p.result (piece-refused (bs s) i n ∙ ap refused_line (fault s))
           p.ensures (omega (arith, refused-length f (omega arith))),
     )
 
 pub put_place-requires : goal.put_place-requires
 put_place-requires c =
-    let a = c.args.accepted in
+    let s = (goal.at.put_place-requires c).After-shared_slice_known-1 in
+    let a = s.args.accepted in
     let z = c.if-accepted-ne0.false in
-    let h = input-heading (bs (goal.at.put_place-requires c).After-shared_slice_known-1) a c.requires.0 z in (
-      input_none (bs (goal.at.put_place-requires c).After-shared_slice_known-1) a c.requires.0 z,
+    let h = input-heading (bs s) a s.requires.0 z in (
+      input_none (bs s) a s.requires.0 z,
       h,
-      input-files (bs (goal.at.put_place-requires c).After-shared_slice_known-1) a c.requires.0 z,
-      omega (arith, c.requires.1, pieces-accepted (bs (goal.at.put_place-requires c).After-shared_slice_known-1) (fault (goal.at.put_place-requires c).After-shared_slice_known-1 ∙ z), ap (λ (h : Heading). h.jobs) h),
-      c.requires.2 ∙ output-next (bs (goal.at.put_place-requires c).After-shared_slice_known-1) c.args.i (fault (goal.at.put_place-requires c).After-shared_slice_known-1 ∙ z),
-      c.requires.3,
+      input-files (bs s) a s.requires.0 z,
+      omega (arith, s.requires.1, pieces-accepted (bs s) (fault s ∙ z), ap (λ (h : Heading). h.jobs) h),
+      s.requires.2 ∙ output-next (bs s) s.args.i (fault s ∙ z),
+      s.requires.3,
     )
 
 pub returns : goal.returns
 returns c =
-    let i = c.args.i in
-    let z = fault (goal.at.returns c).After-shared_slice_known-1 ∙ c.if-accepted-ne0.false in
-    let e = sym (piece-accepted (bs (goal.at.returns c).After-shared_slice_known-1) i z) in
-    let r = c.put_place.ensures in (
-      r.0 ∙ sym (output-next (bs (goal.at.returns c).After-shared_slice_known-1) (i + 1) z),
-      (r.1.0 ∙ ap (λ (t : List ℕ). written 0 t c.args.text.now) e, r.1.1 ∙ ap length e, r.1.2),
+    let p = (goal.at.returns c).After-put_place in
+    let s = (goal.at.After-put_place p).After-shared_slice_known-1 in
+    let i = s.args.i in
+    let z = fault s ∙ p.if-accepted-ne0.false in
+    let e = sym (piece-accepted (bs s) i z) in
+    let r = p.put_place.ensures in (
+      r.0 ∙ sym (output-next (bs s) (i + 1) z),
+      (r.1.0 ∙ ap (λ (t : List ℕ). written 0 t s.args.text.now) e, r.1.1 ∙ ap length e, r.1.2),
     )

@@ -11,17 +11,18 @@ use borrow.Author.Rules.{rules}
 use Rattle.polynomial.proofs.eval.Goals as goal
 use Rattle.polynomial.proofs.eval.Goals.{Start}
 
-shaped : (s : Start) → Shaped s.args.t3
-shaped s = let h : length s.args.t3 ≡ 64 = omega (arith, s.well_formed) in shaped-good s.args.t3 _ h s.well_formed.1.1.0
+shaped : (s : Start) → Shaped s.args.p
+shaped s = let h : length s.args.p ≡ 64 = omega (arith, s.well_formed) in shaped-good s.args.p _ h s.well_formed.1.1.0
 
 pub eval64-requires : goal.eval64-requires
 eval64-requires c = ((omega arith, omega arith), omega arith, shaped (goal.at.eval64-requires c).Start)
 
 pub returns : goal.returns
 returns c =
-    let d = c.args.d in
-    let p = c.args.t3 in
+    let s = (goal.at.returns c).Start in
+    let d = s.args.d in
+    let p = s.args.p in
     c.reduce.ensures
     ∙ rw c.eval64.ensures
-    (narrow-value {j = c.args.k} (omega arith) d (omega arith) (omega arith) c.args.len p (point d c.args.x) (shaped-all p (shaped (goal.at.returns c).Start))
-    (length-point d c.args.x))
+    (narrow-value {j = s.args.k} (omega arith) d (omega arith) (omega arith) s.args.len p (point d s.args.x) (shaped-all p (shaped s))
+    (length-point d s.args.x))

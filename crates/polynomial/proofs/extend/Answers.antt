@@ -14,10 +14,13 @@ use Rattle.polynomial.proofs.Turns.{excess_by, extend-calls, subtract-shaped, ro
 use Rattle.polynomial.proofs.Narrow.{extend-narrow, root-narrow}
 use borrow.Author.Rules.{rules}
 use Rattle.polynomial.proofs.extend.Goals as goal
+use Rattle.polynomial.proofs.extend.Goals.{After-difference, After-subtract_multiple}
 
 pub returns : goal.returns
 returns c =
-    let s = c.before.before.before in
+    let m = (goal.at.returns c).After-subtract_multiple in
+    let b = (goal.at.After-subtract_multiple m).After-difference in
+    let s = b.before.before.before in
     let k = s.args.k in
     let d = s.args.d in
     let n = s.args.len in
@@ -31,11 +34,11 @@ returns c =
     let aq = shaped-all q s.requires.3 in
     let al = shaped-all l s.requires.4 in
     let e = excess_by k 64 d n q l x y in
-    let r : c.subtract_multiple.new.p ≡ subtract_rows 64 d (n + 1) q e l =
+    let r : m.subtract_multiple.new.p ≡ subtract_rows 64 d (n + 1) q e l =
     extend-calls 64 d (omega arith) (omega arith) k n q l _ x s.args.y _ _ _ _ _
     (value-length 64 d (omega arith) (omega arith) n q x aq lx) (value-length 64 d (omega arith) (omega arith) (n + 1) l x al lx)
-    c.before.eval64.ensures c.eval642.ensures
-    c.inverse-of.ensures c.difference.ensures c.product.ensures c.subtract_multiple.ensures in (
+    b.before.eval64.ensures b.eval642.ensures
+    b.inverse-of.ensures b.difference.ensures b.product.ensures m.subtract_multiple.ensures in (
       rw r (extend-narrow {j = k} (omega arith) d (omega arith) (omega arith) n q l x y aq al lx ly),
       rw c.root.ensures (root-narrow {j = k} (omega arith) d (omega arith) (omega arith) (n + 2) x l lx al),
       rw r (subtract-shaped 64 d (omega arith) (omega arith) (n + 1) q e l s.requires.3 s.requires.4),

@@ -13,6 +13,7 @@ use Rattle.polynomial.specs.Polynomial.{value}
 use Rattle.polynomial.specs.Rows.{coefs}
 use Rattle.polynomial.proofs.Turns.{eval-none, eval-start, eval-turn, eval-end, eval-length}
 use Rattle.polynomial.proofs.horner.Goals as goal
+use Rattle.polynomial.proofs.horner.Goals.{At-loop-i}
 
 pub returns-then-len-eq0 : goal.returns-then-len-eq0
 returns-then-len-eq0 c =
@@ -35,29 +36,31 @@ loop-i-init c =
 
 pub loop-i-preserved : goal.loop-i-preserved
 loop-i-preserved c =
-    let d = c.args.d in
-    let n = c.args.len in
-    let p = c.args.p.now in
-    let x = point c.args.d c.args.x in
-    let r = c.loop-i.r in
-    let i = c.loop-i.i in
-    let hp : length p ≡ 64 = shaped-length p c.requires.2 in
-    let ha : length (get_or p (i - 1) []) ≡ 6 = shaped_row p (i - 1) c.requires.2 (omega arith) in (
+    let l = (goal.at.loop-i-preserved c).At-loop-i in
+    let d = l.args.d in
+    let n = l.args.len in
+    let p = l.args.p.now in
+    let x = point l.args.d l.args.x in
+    let r = l.loop-i.r in
+    let i = l.loop-i.i in
+    let hp : length p ≡ 64 = shaped-length p l.requires.2 in
+    let ha : length (get_or p (i - 1) []) ≡ 6 = shaped_row p (i - 1) l.requires.2 (omega arith) in (
       omega arith,
       rw (c.sum-r.ensures, c.product_by_point-s.ensures)
-          (eval-length 64 d (omega arith) (omega arith) n p (omega arith) x (get_or p (i - 1) []) r ha c.loop-i.invariant.1),
+          (eval-length 64 d (omega arith) (omega arith) n p (omega arith) x (get_or p (i - 1) []) r ha l.loop-i.invariant.1),
       rw (c.sum-r.ensures, c.product_by_point-s.ensures)
-          (eval-turn 64 d (omega arith) (omega arith) n p (omega arith) x (length-point d c.args.x) r i
-          c.loop-i.invariant.1 (omega arith) (omega arith) c.loop-i.invariant.2),
+          (eval-turn 64 d (omega arith) (omega arith) n p (omega arith) x (length-point d l.args.x) r i
+          l.loop-i.invariant.1 (omega arith) (omega arith) l.loop-i.invariant.2),
     )
 
 pub returns : goal.returns
 returns c =
-    let d = c.args.d in
-    let p = c.args.p.now in
-    let v = value 64 d (coefs d c.args.len p) (point d c.args.x) in
-    let hp : length p ≡ 64 = shaped-length p c.requires.2 in
-    let e : c.loop-i.i ≡ 0 = omega arith in
-    let q : reduce 64 (take d c.loop-i.r) ≡ v = rw e at c.loop-i.invariant.2 in
-    eval-end 64 d (omega arith) (omega arith) c.args.len p (omega arith) (point d c.args.x) c.keep.result c.loop-i.r v
-    c.keep.ensures (word_good c.keep.result _ c.keep.type-inv) c.loop-i.invariant.1 q
+    let l = (goal.at.returns c).At-loop-i in
+    let d = l.args.d in
+    let p = l.args.p.now in
+    let v = value 64 d (coefs d l.args.len p) (point d l.args.x) in
+    let hp : length p ≡ 64 = shaped-length p l.requires.2 in
+    let e : l.loop-i.i ≡ 0 = omega arith in
+    let q : reduce 64 (take d l.loop-i.r) ≡ v = rw e at l.loop-i.invariant.2 in
+    eval-end 64 d (omega arith) (omega arith) l.args.len p (omega arith) (point d l.args.x) c.keep.result l.loop-i.r v
+    c.keep.ensures (word_good c.keep.result _ c.keep.type-inv) l.loop-i.invariant.1 q

@@ -14,32 +14,35 @@ use Rattle.polynomial.specs.Rows.{less_times, root_rows}
 use Rattle.polynomial.proofs.Change.{length-change, change-paste}
 use Rattle.polynomial.proofs.Turns.{root-turn}
 use Rattle.polynomial.proofs.root_by.Goals as goal
+use Rattle.polynomial.proofs.root_by.Goals.{At-loop-i}
 
 pub loop-i-init : goal.loop-i-init
 loop-i-init c = (search rules, refl, refl, refl)
 
 pub loop-i-preserved : goal.loop-i-preserved
 loop-i-preserved c =
-    let d = c.args.d in
-    let n = c.args.len in
-    let x = point c.args.d c.args.x in
-    let p = c.args.p.now in
-    let i = c.loop-i.i in
-    let hp : length p ≡ 64 = shaped-length p c.requires.2 in
+    let l = (goal.at.loop-i-preserved c).At-loop-i in
+    let d = l.args.d in
+    let n = l.args.len in
+    let x = point l.args.d l.args.x in
+    let p = l.args.p.now in
+    let i = l.loop-i.i in
+    let hp : length p ≡ 64 = shaped-length p l.requires.2 in
     let hs : length (root_rows 64 d n x p) ≡ length p = length-change (less_times 64 d x) n (replicate 6 0 ∷ p) p in
-    let rp : length (get_or p i []) ≡ 6 = shaped_row p i c.requires.2 (omega arith) in
-    let ahead : get_or c.loop-i.p i [] ≡ get_or p i [] = fill-ahead p (root_rows 64 d n x p) c.loop-i.p i [] c.loop-i.invariant.3 (omega arith) in (
+    let rp : length (get_or p i []) ≡ 6 = shaped_row p i l.requires.2 (omega arith) in
+    let ahead : get_or l.loop-i.p i [] ≡ get_or p i [] = fill-ahead p (root_rows 64 d n x p) l.loop-i.p i [] l.loop-i.invariant.3 (omega arith) in (
       omega arith,
       ap length ahead ∙ rp,
       rw add-one ahead,
       rw (c.keep.ensures, c.difference.ensures, c.product_by_point-v.ensures)
-          (root-turn 64 d (omega arith) (omega arith) n x p c.loop-i.p c.loop-i.below i
-          (omega arith) (omega arith) rp c.loop-i.invariant.1 c.loop-i.invariant.2 c.loop-i.invariant.3),
+          (root-turn 64 d (omega arith) (omega arith) n x p l.loop-i.p l.loop-i.below i
+          (omega arith) (omega arith) rp l.loop-i.invariant.1 l.loop-i.invariant.2 l.loop-i.invariant.3),
     )
 
 pub returns : goal.returns
 returns c =
-    let p = c.args.p.now in
-    let e : c.loop-i.i ≡ c.args.len = omega arith in
-    rw e at c.loop-i.invariant.3
-    ∙ change-paste (less_times 64 c.args.d (point c.args.d c.args.x)) c.args.len (replicate 6 0 ∷ p) p
+    let l = (goal.at.returns c).At-loop-i in
+    let p = l.args.p.now in
+    let e : l.loop-i.i ≡ l.args.len = omega arith in
+    rw e at l.loop-i.invariant.3
+    ∙ change-paste (less_times 64 l.args.d (point l.args.d l.args.x)) l.args.len (replicate 6 0 ∷ p) p

@@ -11,28 +11,31 @@ use Rattle.polynomial.proofs.Shape.{shaped-length, shaped_row}
 use Rattle.polynomial.proofs.Change.{change-paste}
 use Rattle.polynomial.proofs.Turns.{subtract-turn}
 use Rattle.polynomial.proofs.subtract_by.Goals as goal
+use Rattle.polynomial.proofs.subtract_by.Goals.{At-loop-i}
 
 pub loop-i-init : goal.loop-i-init
 loop-i-init c = (search rules, refl)
 
 pub loop-i-preserved : goal.loop-i-preserved
 loop-i-preserved c =
-    let d = c.args.d in
-    let p = c.args.p.now in
-    let q = c.args.q.now in
-    let i = c.loop-i.i in
-    let hp : length p ≡ 64 = shaped-length p c.requires.2 in
-    let hq : length q ≡ 64 = shaped-length q c.requires.3 in
-    let rp : length (get_or p i []) ≡ 6 = shaped_row p i c.requires.2 (omega arith) in
-    let rq : length (get_or q i []) ≡ 6 = shaped_row q i c.requires.3 (omega arith) in (
+    let l = (goal.at.loop-i-preserved c).At-loop-i in
+    let d = l.args.d in
+    let p = l.args.p.now in
+    let q = l.args.q.now in
+    let i = l.loop-i.i in
+    let hp : length p ≡ 64 = shaped-length p l.requires.2 in
+    let hq : length q ≡ 64 = shaped-length q l.requires.3 in
+    let rp : length (get_or p i []) ≡ 6 = shaped_row p i l.requires.2 (omega arith) in
+    let rq : length (get_or q i []) ≡ 6 = shaped_row q i l.requires.3 (omega arith) in (
       omega arith,
       rw (c.keep.ensures, c.difference.ensures, c.product-v.ensures)
-          (subtract-turn 64 d (omega arith) (omega arith) c.args.len p (take d c.args.e) q c.loop-i.p i
-          (omega arith) (omega arith) (omega arith) rp rq c.loop-i.invariant.1),
+          (subtract-turn 64 d (omega arith) (omega arith) l.args.len p (take d l.args.e) q l.loop-i.p i
+          (omega arith) (omega arith) (omega arith) rp rq l.loop-i.invariant.1),
     )
 
 pub returns : goal.returns
 returns c =
-    let d = c.args.d in
-    let e : c.loop-i.i ≡ c.args.len = omega arith in
-    rw e at c.loop-i.invariant.1 ∙ change-paste (less_multiple 64 d (take d c.args.e)) c.args.len c.args.q.now c.args.p.now
+    let l = (goal.at.returns c).At-loop-i in
+    let d = l.args.d in
+    let e : l.loop-i.i ≡ l.args.len = omega arith in
+    rw e at l.loop-i.invariant.1 ∙ change-paste (less_multiple 64 d (take d l.args.e)) l.args.len l.args.q.now l.args.p.now

@@ -24,13 +24,15 @@ pub overflow_mul-result-2 : goal.overflow_mul-result-2
 overflow_mul-result-2 c = omega (arith, byte (goal.at.overflow_mul-result-2 c).After-wide-2 2)
 
 pub overflow_add-result-2 : goal.overflow_add-result-2
-overflow_add-result-2 c = omega (arith, low (goal.at.overflow_add-result-2 c).After-wide-2, byte (goal.at.overflow_add-result-2 c).After-wide-2 1, byte (goal.at.overflow_add-result-2 c).After-wide-2 2)
+overflow_add-result-2 c = let e = (goal.at.overflow_add-result-2 c).After-wide-2 in omega (arith, low e, byte e 1, byte e 2)
 
 pub overflow_mul-result-3 : goal.overflow_mul-result-3
 overflow_mul-result-3 c = omega (arith, byte (goal.at.overflow_mul-result-3 c).After-wide-2 3)
 
 pub overflow_add-result-3 : goal.overflow_add-result-3
-overflow_add-result-3 c = omega (arith, low (goal.at.overflow_add-result-3 c).After-wide-2, byte (goal.at.overflow_add-result-3 c).After-wide-2 1, byte (goal.at.overflow_add-result-3 c).After-wide-2 2, byte (goal.at.overflow_add-result-3 c).After-wide-2 3)
+overflow_add-result-3 c =
+    let e = (goal.at.overflow_add-result-3 c).After-wide-2 in
+    omega (arith, low e, byte e 1, byte e 2, byte e 3)
 
 pub returns : goal.returns
 returns c =

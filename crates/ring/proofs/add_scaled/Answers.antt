@@ -9,8 +9,8 @@ use Rattle.ring.proofs.add_scaled.Goals as goal
 
 pub returns : goal.returns
 returns c =
-    let ha : length c.args.t2 ≡ 6 = omega (arith, c.well_formed) in
-    let hb : length c.args.t3 ≡ 6 = omega (arith, c.well_formed) in
+    let ha : length c.args.s ≡ 6 = omega (arith, c.well_formed) in
+    let hb : length c.args.b ≡ 6 = omega (arith, c.well_formed) in
     rw (
       c.plus.ensures,
       c.plus-2.ensures,
@@ -19,4 +19,4 @@ returns c =
       c.plus-5.ensures,
       c.plus-6.ensures,
     )
-    (sym (zip-six (plus_w 64 c.args.c) c.args.t2 c.args.t3 ha hb))
+    (sym (zip-six (plus_w 64 c.args.c) c.args.s c.args.b ha hb))

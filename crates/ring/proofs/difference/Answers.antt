@@ -9,8 +9,8 @@ use Rattle.ring.proofs.difference.Goals as goal
 
 pub returns : goal.returns
 returns c =
-    let ha : length c.args.t2 ≡ 6 = omega (arith, c.well_formed) in
-    let hb : length c.args.t3 ≡ 6 = omega (arith, c.well_formed) in
+    let ha : length c.args.a ≡ 6 = omega (arith, c.well_formed) in
+    let hb : length c.args.b ≡ 6 = omega (arith, c.well_formed) in
     rw (
       c.sub.ensures,
       c.sub-2.ensures,
@@ -19,4 +19,4 @@ returns c =
       c.sub-5.ensures,
       c.sub-6.ensures,
     )
-    (sym (zip-six (sub_w c.args.k) c.args.t2 c.args.t3 ha hb))
+    (sym (zip-six (sub_w c.args.k) c.args.a c.args.b ha hb))

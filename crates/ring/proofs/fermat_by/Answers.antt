@@ -12,6 +12,7 @@ use Rattle.galois.proofs.Lists.{length-product}
 use Rattle.galois.proofs.Inverse.{fermat-start, fermat-turn}
 use Rattle.galois.proofs.Held.{held-take}
 use Rattle.ring.proofs.fermat_by.Goals as goal
+use Rattle.ring.proofs.fermat_by.Goals.{At-loop-i}
 
 pub loop-i-init : goal.loop-i-init
 loop-i-init c =
@@ -25,20 +26,21 @@ loop-i-init c =
 
 pub loop-i-preserved : goal.loop-i-preserved
 loop-i-preserved c =
-    let d = c.args.d in
-    let a = take d c.args.a in
-    let i = c.loop-i.i in
-    let h₆ : length c.args.a ≡ 6 = omega (arith, c.well_formed) in
-    let ha : length a ≡ d = length-take-le d c.args.a (omega arith) in
+    let l = (goal.at.loop-i-preserved c).At-loop-i in
+    let d = l.args.d in
+    let a = take d l.args.a in
+    let i = l.loop-i.i in
+    let h₆ : length l.args.a ≡ 6 = omega (arith, l.well_formed) in
+    let ha : length a ≡ d = length-take-le d l.args.a (omega arith) in
     let hl : length (lower d) ≡ d = length-lower d (omega arith) (omega arith) in
-    let p = product 64 (lower d) (take d c.loop-i.y) a in
-    let hp : length p ≡ d = length-product 64 (lower d) (take d c.loop-i.y) a (ha ∙ sym hl) ∙ hl in
+    let p = product 64 (lower d) (take d l.loop-i.y) a in
+    let hp : length p ≡ d = length-product 64 (lower d) (take d l.loop-i.y) a (ha ∙ sym hl) ∙ hl in
     let ez : take d c.product64-z.result ≡ p = ap (take d) c.product64-z.ensures ∙ held-take d p hp in
     let en : i + 1 - 2 ≡ suc (i - 2) = omega arith in (
       omega arith,
       omega arith,
       rw (c.product64-y-in-loop-i.ensures, en)
-          (fermat-turn d (omega arith) (omega arith) a c.loop-i.y ha (i - 2) c.loop-i.invariant.2 (take d c.product64-z.result) ez),
+          (fermat-turn d (omega arith) (omega arith) a l.loop-i.y ha (i - 2) l.loop-i.invariant.2 (take d c.product64-z.result) ez),
     )
 
 pub returns : goal.returns

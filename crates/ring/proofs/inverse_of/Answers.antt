@@ -12,6 +12,7 @@ use Rattle.galois.proofs.Inverse.{length-newtons, inverse-computed}
 use Rattle.galois.proofs.Held.{held-take, held_same}
 use Rattle.galois.proofs.Narrow.{reduce-held}
 use Rattle.ring.proofs.inverse_of.Goals as goal
+use Rattle.ring.proofs.inverse_of.Goals.{After-newton64}
 
 pub newton64-requires : goal.newton64-requires
 newton64-requires c =
@@ -25,18 +26,19 @@ newton64-requires c =
 
 pub returns : goal.returns
 returns c =
-    let k = c.args.k in
-    let d = c.args.d in
-    let n = c.newton64.ensures.0 in
-    let h₆ : length c.args.a ≡ 6 = omega (arith, c.well_formed) in
-    let a = take d c.args.a in
-    let ha : length a ≡ d = length-take-le d c.args.a (omega arith) in
+    let m = (goal.at.returns c).After-newton64 in
+    let k = m.args.k in
+    let d = m.args.d in
+    let n = m.newton64.ensures.0 in
+    let h₆ : length m.args.a ≡ 6 = omega (arith, m.well_formed) in
+    let a = take d m.args.a in
+    let ha : length a ≡ d = length-take-le d m.args.a (omega arith) in
     let y = fermat d a (d - 2) in
     let hy : length y ≡ d = length-fermat d (omega arith) (omega arith) a ha (d - 2) in
-    let ey : take d c.reduce.result ≡ y =
-    ap (take d) (c.reduce.ensures ∙ c.fermat64.ensures) ∙ held-take d y hy in
+    let ey : take d m.reduce.result ≡ y =
+    ap (take d) (m.reduce.ensures ∙ m.fermat64.ensures) ∙ held-take d y hy in
     let x = newtons 64 d a y n in
     let hx : length x ≡ d = length-newtons d (omega arith) (omega arith) 64 a y ha hy n in
-    let ex : c.newton64.result ≡ held d x = c.newton64.ensures.1.1 ∙ rw ey in
+    let ex : m.newton64.result ≡ held d x = m.newton64.ensures.1.1 ∙ rw ey in
     c.reduce-2.ensures ∙ ap (reduce k) ex ∙ reduce-held k d x hx (omega arith)
-    ∙ ap (held d) (inverse-computed d (omega arith) (omega arith) k 64 (omega arith) (omega arith) a ha n c.newton64.ensures.1.0)
+    ∙ ap (held d) (inverse-computed d (omega arith) (omega arith) k 64 (omega arith) (omega arith) a ha n m.newton64.ensures.1.0)

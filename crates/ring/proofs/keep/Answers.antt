@@ -8,7 +8,7 @@ use Rattle.ring.proofs.keep.Goals as goal
 
 pub returns : goal.returns
 returns c =
-    let ha : length c.args.t2 ≡ 6 = omega (arith, c.well_formed) in
+    let ha : length c.args.a ≡ 6 = omega (arith, c.well_formed) in
     rw (
       c.below.ensures,
       c.below-2.ensures,
@@ -17,4 +17,4 @@ returns c =
       c.below-5.ensures,
       c.below-6.ensures,
     )
-    (sym (held-six c.args.d c.args.t2 ha c.requires))
+    (sym (held-six c.args.d c.args.a ha c.requires))

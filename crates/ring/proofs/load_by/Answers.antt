@@ -8,16 +8,18 @@ use lib.ListN.{length, drop, length-drop}
 use lib.Seq.{paste, get_or-drop}
 use Rattle.words.proofs.Fill.{fill-next}
 use Rattle.ring.proofs.load_by.Goals as goal
+use Rattle.ring.proofs.load_by.Goals.{At-loop-j}
 
 pub loop-j-init : goal.loop-j-init
 loop-j-init c = (search rules, refl)
 
 pub loop-j-preserved : goal.loop-j-preserved
 loop-j-preserved c =
-    let h : length (drop c.args.at c.args.s.now) ≡ length c.args.s.now - c.args.at = length-drop c.args.at c.args.s.now in (
+    let l = (goal.at.loop-j-preserved c).At-loop-j in
+    let h : length (drop l.args.at l.args.s.now) ≡ length l.args.s.now - l.args.at = length-drop l.args.at l.args.s.now in (
       omega arith,
-      fill-next _ (drop c.args.at c.args.s.now) c.loop-j.r c.loop-j.j 0 _ c.loop-j.invariant.1 (omega arith) (omega arith)
-          (sym (get_or-drop c.args.at c.args.s.now c.loop-j.j 0)),
+      fill-next _ (drop l.args.at l.args.s.now) l.loop-j.r l.loop-j.j 0 _ l.loop-j.invariant.1 (omega arith) (omega arith)
+          (sym (get_or-drop l.args.at l.args.s.now l.loop-j.j 0)),
     )
 
 pub returns : goal.returns

@@ -16,6 +16,10 @@ use Rattle.galois.proofs.Inverse.{length_two, length-newtons}
 use Rattle.galois.proofs.Held.{held-take, held_same, const-held, difference-held}
 use Rattle.ring.proofs.newton_by.Given as goal
 
+-- y is n steps from start, and w has been doubled n times from one
+abbrev pub Reached : ℕ → Element → Element → List ℕ → ℕ → Type 0
+Reached d a start y w = (n : ℕ) × ((w ≡ 2 ^ n) × (y ≡ held d (newtons 64 d a start n)))
+
 abbrev pub invariant-loop-w : goal.invariant-loop-w
 invariant-loop-w l = (1 ≤ l.w) × Reached l.d (take l.d l.a) (take l.d l.initial.y) l.y l.w
 

@@ -8,7 +8,7 @@ use Rattle.ring.proofs.reduce.Goals as goal
 
 pub returns : goal.returns
 returns c =
-    let ha : length c.args.t2 ≡ 6 = omega (arith, c.well_formed) in
+    let ha : length c.args.a ≡ 6 = omega (arith, c.well_formed) in
     rw (
       c.low_bits.ensures,
       c.low_bits-2.ensures,
@@ -17,4 +17,4 @@ returns c =
       c.low_bits-5.ensures,
       c.low_bits-6.ensures,
     )
-    (sym (reduce-six c.args.k c.args.t2 ha))
+    (sym (reduce-six c.args.k c.args.a ha))

@@ -9,8 +9,8 @@ use Rattle.ring.proofs.sum.Goals as goal
 
 pub returns : goal.returns
 returns c =
-    let ha : length c.args.t2 ≡ 6 = omega (arith, c.well_formed) in
-    let hb : length c.args.t3 ≡ 6 = omega (arith, c.well_formed) in
+    let ha : length c.args.a ≡ 6 = omega (arith, c.well_formed) in
+    let hb : length c.args.b ≡ 6 = omega (arith, c.well_formed) in
     rw (
       c.add.ensures,
       c.add-2.ensures,
@@ -19,4 +19,4 @@ returns c =
       c.add-5.ensures,
       c.add-6.ensures,
     )
-    (sym (zip-six (add_w c.args.k) c.args.t2 c.args.t3 ha hb))
+    (sym (zip-six (add_w c.args.k) c.args.a c.args.b ha hb))

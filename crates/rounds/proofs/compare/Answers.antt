@@ -19,7 +19,7 @@ use Rattle.rounds.proofs.Lowest.{bits-gap}
 use Rattle.rounds.proofs.Collected.{set-start, holder-low, holder-high, set_same, set_more, set_all}
 use Rattle.rounds.proofs.Compared.{differs_false, differs_true, bits-start, bits-more, zero_same, bits-all}
 use Rattle.rounds.proofs.compare.Goals as goal
-use Rattle.rounds.proofs.compare.Goals.{At-loop-i, In-loop-i}
+use Rattle.rounds.proofs.compare.Goals.{After-gap-b, At-loop-i, In-loop-i, Then-b-ne0}
 
 most : 6 ≤ 6
 most = omega arith
@@ -48,54 +48,61 @@ loop-i-init c =
 
 pub overflow_sub-set : goal.overflow_sub-set
 overflow_sub-set c =
-    let a = c.args in
-    omega (arith, holder-low 6 most (differs 64 6 []) a.m a.hs.now a.rest.now c.requires.2 c.loop-i.i (omega arith) c.loop-i.invariant.1)
+    let l = (goal.at.overflow_sub-set c).In-loop-i in
+    let a = l.args in
+    omega (arith, holder-low 6 most (differs 64 6 []) a.m a.hs.now a.rest.now l.requires.2 l.loop-i.i (omega arith) l.loop-i.invariant.1)
 
 pub overflow_shl-set : goal.overflow_shl-set
 overflow_shl-set c =
-    let a = c.args in
-    omega (arith, holder-high 6 most (differs 64 6 []) a.m a.hs.now a.rest.now c.requires.2 c.loop-i.i (omega arith) c.loop-i.invariant.1)
+    let l = (goal.at.overflow_shl-set c).In-loop-i in
+    let a = l.args in
+    omega (arith, holder-high 6 most (differs 64 6 []) a.m a.hs.now a.rest.now l.requires.2 l.loop-i.i (omega arith) l.loop-i.invariant.1)
 
 pub loop-i-preserved-then-b-ne0 : goal.loop-i-preserved-then-b-ne0
 loop-i-preserved-then-b-ne0 c =
-    let a = c.args in
+    let g = (goal.at.loop-i-preserved-then-b-ne0 c).Then-b-ne0 in
+    let l = (goal.at.Then-b-ne0 g).In-loop-i in
+    let a = l.args in
     let h = a.hs.now in
     let r = a.rest.now in
-    let i = c.loop-i.i in
-    let b = c.gap-b.ensures ∙ bits_at (goal.at.loop-i-preserved-then-b-ne0 c).In-loop-i (omega arith) in (
+    let i = l.loop-i.i in
+    let b = g.gap-b.ensures ∙ bits_at l (omega arith) in (
       omega arith,
       omega arith,
-      set_more 6 most (differs 64 6 []) a.m h r c.requires.2 i (omega arith) c.loop-i.invariant.1
-          (differs_true (share_at 6 h r (i - 1)) (λ z. c.if-b-ne0.true (b ∙ z))) c.loop-i.set c.loop-i.invariant.2,
-      bits-more a.m h r i (omega arith) c.loop-i.invariant.1 c.gap-b.result c.loop-i.bits b c.loop-i.invariant.3,
+      set_more 6 most (differs 64 6 []) a.m h r l.requires.2 i (omega arith) l.loop-i.invariant.1
+          (differs_true (share_at 6 h r (i - 1)) (λ z. c.if-b-ne0.true (b ∙ z))) l.loop-i.set l.loop-i.invariant.2,
+      bits-more a.m h r i (omega arith) l.loop-i.invariant.1 g.gap-b.result l.loop-i.bits b l.loop-i.invariant.3,
     )
 
 pub loop-i-preserved : goal.loop-i-preserved
 loop-i-preserved c =
-    let a = c.args in
+    let g = (goal.at.loop-i-preserved c).After-gap-b in
+    let l = (goal.at.After-gap-b g).At-loop-i in
+    let a = l.args in
     let h = a.hs.now in
     let r = a.rest.now in
-    let i = c.loop-i.i in
-    let b = c.gap-b.ensures ∙ bits_at (goal.at.loop-i-preserved c).At-loop-i (omega arith) in (
+    let i = l.loop-i.i in
+    let b = g.gap-b.ensures ∙ bits_at l (omega arith) in (
       omega arith,
       omega arith,
-      c.loop-i.invariant.2
-          ∙ set_same 6 most (differs 64 6 []) a.m h r c.requires.2 i (omega arith) c.loop-i.invariant.1
-          (differs_false (share_at 6 h r (i - 1)) (ap length (whole (goal.at.loop-i-preserved c).At-loop-i (omega arith)) ∙ six (goal.at.loop-i-preserved c).At-loop-i (omega arith)) (sym b ∙ c.if-b-ne0.false)),
-      bits-more a.m h r i (omega arith) c.loop-i.invariant.1 c.gap-b.result c.loop-i.bits b c.loop-i.invariant.3,
+      l.loop-i.invariant.2
+          ∙ set_same 6 most (differs 64 6 []) a.m h r l.requires.2 i (omega arith) l.loop-i.invariant.1
+          (differs_false (share_at 6 h r (i - 1)) (ap length (whole l (omega arith)) ∙ six l (omega arith)) (sym b ∙ c.if-b-ne0.false)),
+      bits-more a.m h r i (omega arith) l.loop-i.invariant.1 g.gap-b.result l.loop-i.bits b l.loop-i.invariant.3,
     )
 
 pub returns : goal.returns
 returns c =
-    let a = c.args in
+    let l = (goal.at.returns c).At-loop-i in
+    let a = l.args in
     let h = a.hs.now in
     let r = a.rest.now in
-    let i = c.loop-i.i in
+    let i = l.loop-i.i in
     let e : i ≤ a.n = omega arith in
     let f = from_end 6 h r 0 a.m refl in (
-      c.loop-i.invariant.2
-          ∙ set_all 6 most (differs 64 6 []) a.m h r c.requires.2 i c.loop-i.invariant.1
-          (λ j k. zero_same a.n a.m c.requires.0 h r c.requires.4 j (omega (arith, k, e)))
+      l.loop-i.invariant.2
+          ∙ set_all 6 most (differs 64 6 []) a.m h r l.requires.2 i l.loop-i.invariant.1
+          (λ j k. zero_same a.n a.m l.requires.0 h r l.requires.4 j (omega (arith, k, e)))
           ∙ ap (set_of (differs 64 6 [])) f ∙ sym (error_set-tally 64 6 [] (shares_of 6 a.m h r)),
-      c.loop-i.invariant.3 ∙ bits-all a.n a.m c.requires.0 h r c.requires.4 i e ∙ ap bits_of_all f,
+      l.loop-i.invariant.3 ∙ bits-all a.n a.m l.requires.0 h r l.requires.4 i e ∙ ap bits_of_all f,
     )

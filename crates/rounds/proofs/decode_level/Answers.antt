@@ -37,8 +37,9 @@ abbrev rows : After-residues → Rows
 rows c = c.residues.new.rest
 
 left-of : (c : After-residues) →
-    (let a = c.args in
-    Left a.k a.d a.t a.m (poly (goal.at.After-residues c).Start) a.hs.now a.ys.now (rows c))
+    (let s = (goal.at.After-residues c).Start in
+    let a = s.args in
+    Left a.k a.d a.t a.m (poly s) a.hs.now a.ys.now (rows c))
 left-of c =
     let a = c.args in
     let p = c.requires in
@@ -47,71 +48,86 @@ left-of c =
 
 pub compare-c-requires : goal.compare-c-requires
 compare-c-requires c =
-    let p = c.before.requires in
-    let o = left-of (goal.at.compare-c-requires c).After-residues-arg-1 in
-    (omega (arith, p.4), p.3, o.holders-six, o.shaped, rw (add-one c.before.args.t) o.first)
+    let b = (goal.at.compare-c-requires c).After-residues-arg-1 in
+    let p = b.before.requires in
+    let o = left-of b in
+    (omega (arith, p.4), p.3, o.holders-six, o.shaped, rw (add-one b.before.args.t) o.first)
 
-set_is : (c : After-compare-c) → (c.compare-c.result.set ≡ error_set c.args.k c.args.d (poly (goal.at.After-compare-c c).Start) (shares (goal.at.After-compare-c c).Start))
+set_is : (c : After-compare-c) → (let s = (goal.at.After-compare-c c).Start in c.compare-c.result.set ≡ error_set s.args.k s.args.d (poly s) (shares s))
 set_is c = c.compare-c.ensures.0 ∙ (left-of (goal.at.After-compare-c c).After-residues-arg-1).set
 
 bits_is : (c : After-compare-c) →
-    (c.compare-c.result.bits ≡ bits_of_all (map (left c.args.k c.args.d (poly (goal.at.After-compare-c c).Start)) (shares (goal.at.After-compare-c c).Start)))
+    (let s = (goal.at.After-compare-c c).Start in
+    c.compare-c.result.bits ≡ bits_of_all (map (left s.args.k s.args.d (poly s)) (shares s)))
 bits_is c = c.compare-c.ensures.1 ∙ (left-of (goal.at.After-compare-c c).After-residues-arg-1).bits
 
-count-is : (c : After-compare-c) → (ones c.compare-c.result.set ≡ errors c.args.k c.args.d (poly (goal.at.After-compare-c c).Start) (shares (goal.at.After-compare-c c).Start))
-count-is c = ap ones (set_is c) ∙ ones-of c.args.k c.args.d (poly (goal.at.After-compare-c c).Start) (shares (goal.at.After-compare-c c).Start) c.requires.5
+count-is : (c : After-compare-c) → (let s = (goal.at.After-compare-c c).Start in ones c.compare-c.result.set ≡ errors s.args.k s.args.d (poly s) (shares s))
+count-is c = let s = (goal.at.After-compare-c c).Start in ap ones (set_is c) ∙ ones-of s.args.k s.args.d (poly s) (shares s) s.requires.5
 
 pub overflow_cast-c : goal.overflow_cast-c
 overflow_cast-c c = omega (arith, ones-le 64 c.compare-c.result.set (omega arith))
 
 pub returns-then-c-e : goal.returns-then-c-e
 returns-then-c-e c =
-    let a = c.args in
-    let o = left-of (goal.at.returns-then-c-e c).After-residues-arg-1 in (
-      told a.k a.d a.t a.e (poly (goal.at.returns-then-c-e c).Start) (shares (goal.at.returns-then-c-e c).Start) _
-          (found-few a.k a.d a.t a.e (poly (goal.at.returns-then-c-e c).Start) (shares (goal.at.returns-then-c-e c).Start) c.compare-c.result.set (set_is (goal.at.returns-then-c-e c).After-compare-c)
-          (rw (← count-is (goal.at.returns-then-c-e c).After-compare-c) c.if-c-e.true)),
+    let f = (goal.at.returns-then-c-e c).After-compare-c in
+    let a = f.args in
+    let o = left-of (goal.at.After-compare-c f).After-residues-arg-1 in (
+      told a.k a.d a.t a.e (poly (goal.at.After-compare-c f).Start) (shares (goal.at.After-compare-c f).Start) _
+          (found-few a.k a.d a.t a.e (poly (goal.at.After-compare-c f).Start) (shares (goal.at.After-compare-c f).Start) f.compare-c.result.set (set_is f)
+          (rw (← count-is f) c.if-c-e.true)),
       o.shaped,
     )
 
 pub overflow_cast-v : goal.overflow_cast-v
 overflow_cast-v c = omega (arith, trailing_le 64 c.compare-c.result.bits)
 
-far : (c : Else-c-e) → (c.args.e < errors c.args.k c.args.d (poly (goal.at.Else-c-e c).Start) (shares (goal.at.Else-c-e c).Start))
+far : (c : Else-c-e) → (let s = (goal.at.Else-c-e c).Start in s.args.e < errors s.args.k s.args.d (poly s) (shares s))
 far c = omega (arith, c.if-c-e.false, count-is (goal.at.Else-c-e c).After-compare-c)
 
 low_bit : (c : Else-c-e) → count_trailing_zeros 64 c.compare-c.result.bits < 64
 low_bit c =
-    let a = c.args in
-    let p = c.requires in
-    let l = lowest-at a.d p.1.0 p.1.1 a.k a.t (poly (goal.at.Else-c-e c).Start) (shares (goal.at.Else-c-e c).Start) p.0.1 p.7.0 p.6 (omega (arith, far c)) in
+    let s = (goal.at.Else-c-e c).Start in
+    let a = s.args in
+    let p = s.requires in
+    let l = lowest-at a.d p.1.0 p.1.1 a.k a.t (poly s) (shares s) p.0.1 p.7.0 p.6 (omega (arith, far c)) in
     rw (bits_is (goal.at.Else-c-e c).After-compare-c) (omega (arith, l.room, p.0.1))
 
 pub decide-got-requires : goal.decide-got-requires
 decide-got-requires c =
-    let p = c.requires in
-    let o = left-of (goal.at.decide-got-requires c).After-residues-arg-1 in
-    (p.1, low_bit (goal.at.decide-got-requires c).After-struct_known-1, p.2, p.3, o.holders, o.sized, omega (arith, p.4))
+    let f = (goal.at.decide-got-requires c).After-struct_known-1 in
+    let p = f.requires in
+    let o = left-of (goal.at.After-struct_known-1 f).After-residues-arg-1 in
+    (p.1, low_bit f, p.2, p.3, o.holders, o.sized, omega (arith, p.4))
 
 found : (c : After-decide-got) →
-    (named c.decide-got.result ≡ level_found c.args.k c.args.d c.args.t c.args.e (poly (goal.at.After-decide-got c).Start) (shares (goal.at.After-decide-got c).Start))
+    (let s = (goal.at.After-decide-got c).Start in
+    named c.decide-got.result ≡ level_found s.args.k s.args.d s.args.t s.args.e (poly s) (shares s))
 found c =
-    let a = c.args in
-    found-field a.k a.d a.t a.e (poly (goal.at.After-decide-got c).Start) (shares (goal.at.After-decide-got c).Start) (far (goal.at.After-decide-got c).After-struct_known-1) (shares_of a.d a.m a.hs.now (rows (goal.at.After-decide-got c).After-residues-arg-1)) (left-of (goal.at.After-decide-got c).After-residues-arg-1).is
-    c.compare-c.result.bits (bits_is (goal.at.After-decide-got c).After-compare-c) c.decide-got.result c.decide-got.ensures.level
+    let f = (goal.at.After-decide-got c).After-struct_known-1 in
+    let g = (goal.at.After-struct_known-1 f).After-compare-c in
+    let s = (goal.at.After-compare-c g).Start in
+    let a = s.args in
+    let b = (goal.at.After-compare-c g).After-residues-arg-1 in
+    found-field a.k a.d a.t a.e (poly s) (shares s) (far f) (shares_of a.d a.m a.hs.now (rows b)) (left-of b).is
+    g.compare-c.result.bits (bits_is g) c.decide-got.result c.decide-got.ensures.level
 
 answers : (c : After-decide-got) (r : Found) →
-    (let a = c.args in
-    r ≡ level_found a.k a.d a.t a.e (poly (goal.at.After-decide-got c).Start) (shares (goal.at.After-decide-got c).Start) →
-    (r ≡ level_found a.k a.d a.t a.e (poly (goal.at.After-decide-got c).Start) (shares (goal.at.After-decide-got c).Start)) × (found_fault r ≡ round_fault a.k a.d a.t a.e (poly (goal.at.After-decide-got c).Start) (shares (goal.at.After-decide-got c).Start)))
-answers c = told c.args.k c.args.d c.args.t c.args.e (poly (goal.at.After-decide-got c).Start) (shares (goal.at.After-decide-got c).Start)
+    (let s = (goal.at.After-decide-got c).Start in
+    let a = s.args in
+    r ≡ level_found a.k a.d a.t a.e (poly s) (shares s) →
+    (r ≡ level_found a.k a.d a.t a.e (poly s) (shares s)) × (found_fault r ≡ round_fault a.k a.d a.t a.e (poly s) (shares s)))
+answers c =
+    let s = (goal.at.After-decide-got c).Start in
+    told s.args.k s.args.d s.args.t s.args.e (poly s) (shares s)
 
 pub returns-in_default : goal.returns-in_default
 returns-in_default c =
-    let o = left-of (goal.at.returns-in_default c).After-residues-arg-1 in
-    (answers (goal.at.returns-in_default c).After-decide-got _ (rw c.in_default.is at (found (goal.at.returns-in_default c).After-decide-got)), o.shaped)
+    let g = (goal.at.returns-in_default c).After-decide-got in
+    let o = left-of (goal.at.After-decide-got g).After-residues-arg-1 in
+    (answers g _ (rw c.in_default.is at (found g)), o.shaped)
 
 pub returns : goal.returns
 returns c =
-    let o = left-of (goal.at.returns c).After-residues-arg-1 in
-    (answers (goal.at.returns c).After-decide-got _ (rw c.in-Codeword.is at (found (goal.at.returns c).After-decide-got)), o.shaped)
+    let g = (goal.at.returns c).After-decide-got in
+    let o = left-of (goal.at.After-decide-got g).After-residues-arg-1 in
+    (answers g _ (rw c.in-Codeword.is at (found g)), o.shaped)

@@ -10,6 +10,7 @@ use Rattle.level.specs.Shares.{shares_of}
 use Rattle.rounds.proofs.Rows.{one_row, shaped-set, clear-one}
 use Rattle.rounds.proofs.Interpolated.{Passed, interpolate-start, interpolate-turn, interpolate-end}
 use Rattle.rounds.proofs.interpolate.Goals as goal
+use Rattle.rounds.proofs.interpolate.Goals.{At-loop-i, In-loop-i}
 
 pub loop-i-init : goal.loop-i-init
 loop-i-init c =
@@ -25,23 +26,25 @@ loop-i-init c =
 
 pub loop-i-preserved : goal.loop-i-preserved
 loop-i-preserved c =
-    let a = c.args in
-    let w = all_map (λ x w. w.0) (shares_of a.d (suc a.t) a.hs.now a.ys.now) c.requires.4 in
+    let l = (goal.at.loop-i-preserved c).In-loop-i in
+    let a = l.args in
+    let w = all_map (λ x w. w.0) (shares_of a.d (suc a.t) a.hs.now a.ys.now) l.requires.4 in
     let e = c.extend.ensures in (
       omega arith,
       e.2,
       e.3,
-      λ h dl dh. interpolate-turn a.k a.d h dl dh a.t a.hs.now a.ys.now w c.loop-i.i (omega arith) c.loop-i.invariant.0
-          c.loop-i.q c.loop-i.nodal c.extend.new.q c.extend.new.nodal (c.loop-i.invariant.3 h dl dh) e.0 e.1,
+      λ h dl dh. interpolate-turn a.k a.d h dl dh a.t a.hs.now a.ys.now w l.loop-i.i (omega arith) l.loop-i.invariant.0
+          l.loop-i.q l.loop-i.nodal c.extend.new.q c.extend.new.nodal (l.loop-i.invariant.3 h dl dh) e.0 e.1,
     )
 
 pub returns : goal.returns
 returns c =
-    let a = c.args in
-    let p = c.requires in
+    let l = (goal.at.returns c).At-loop-i in
+    let a = l.args in
+    let p = l.requires in
     let e = c.reduce_rows.ensures in (
-      interpolate-end a.k a.d p.0.0 p.1.0 p.1.1 a.t a.hs.now a.ys.now p.3 p.4 c.loop-i.i (omega arith)
-          c.loop-i.q c.loop-i.nodal c.reduce_rows.new.q (c.loop-i.invariant.3 p.0.0 p.1.0 p.1.1) e.0,
+      interpolate-end a.k a.d p.0.0 p.1.0 p.1.1 a.t a.hs.now a.ys.now p.3 p.4 l.loop-i.i (omega arith)
+          l.loop-i.q l.loop-i.nodal c.reduce_rows.new.q (l.loop-i.invariant.3 p.0.0 p.1.0 p.1.1) e.0,
       e.1,
-      c.loop-i.invariant.2,
+      l.loop-i.invariant.2,
     )

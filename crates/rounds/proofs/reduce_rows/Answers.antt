@@ -12,25 +12,28 @@ use Rattle.polynomial.specs.Rows.{Shaped}
 use Rattle.polynomial.proofs.Shape.{shaped-length, shaped_row}
 use Rattle.rounds.proofs.Rows.{shaped-set, reduce-turn, reduce-end}
 use Rattle.rounds.proofs.reduce_rows.Goals as goal
+use Rattle.rounds.proofs.reduce_rows.Goals.{At-loop-j}
 
 pub loop-j-init : goal.loop-j-init
 loop-j-init c = (omega arith, c.requires.2, sym (paste-zero c.args.q.now 0 (map (reduce c.args.k) c.args.q.now)))
 
 pub loop-j-preserved : goal.loop-j-preserved
 loop-j-preserved c =
-    let q = c.loop-j.q in
-    let j = c.loop-j.j in
+    let l = (goal.at.loop-j-preserved c).At-loop-j in
+    let q = l.loop-j.q in
+    let j = l.loop-j.j in
     let h : j < 64 = omega arith in
-    let hp : j < length c.args.q.now = rw (shaped-length c.args.q.now c.requires.2) h in
-    let six : length (reduce c.args.k (get_or q j [])) ≡ 6 = length-reduce c.args.k (get_or q j []) ∙ shaped_row q j c.loop-j.invariant.1 h in
+    let hp : j < length l.args.q.now = rw (shaped-length l.args.q.now l.requires.2) h in
+    let six : length (reduce l.args.k (get_or q j [])) ≡ 6 = length-reduce l.args.k (get_or q j []) ∙ shaped_row q j l.loop-j.invariant.1 h in
     rw c.reduce.ensures (
       omega arith,
-      shaped-set q j (reduce c.args.k (get_or q j [])) c.loop-j.invariant.1 h six,
-      reduce-turn c.args.k c.args.q.now q j hp c.loop-j.invariant.2,
+      shaped-set q j (reduce l.args.k (get_or q j [])) l.loop-j.invariant.1 h six,
+      reduce-turn l.args.k l.args.q.now q j hp l.loop-j.invariant.2,
     )
 
 pub returns : goal.returns
 returns c =
-    let e : c.loop-j.j ≡ suc c.args.t = omega arith in
-    let h : suc c.args.t ≤ length c.args.q.now = rw (shaped-length c.args.q.now c.requires.2) (omega arith) in
-    (reduce-end c.args.k c.args.q.now c.loop-j.q (suc c.args.t) h (rw e at c.loop-j.invariant.2), c.loop-j.invariant.1)
+    let l = (goal.at.returns c).At-loop-j in
+    let e : l.loop-j.j ≡ suc l.args.t = omega arith in
+    let h : suc l.args.t ≤ length l.args.q.now = rw (shaped-length l.args.q.now l.requires.2) (omega arith) in
+    (reduce-end l.args.k l.args.q.now l.loop-j.q (suc l.args.t) h (rw e at l.loop-j.invariant.2), l.loop-j.invariant.1)

@@ -15,7 +15,7 @@ use Rattle.level.specs.Shares.{shares_of}
 use Rattle.rounds.proofs.Arrays.{take-of}
 use Rattle.rounds.proofs.Rows.{zero-shaped, zero-rows}
 use Rattle.rounds.proofs.round.Goals as goal
-use Rattle.rounds.proofs.round.Goals.{Start}
+use Rattle.rounds.proofs.round.Goals.{After-interpolate, Start}
 
 -- all shares, and the first t + 1 of them
 abbrev whole : Start → List Share
@@ -26,18 +26,20 @@ first s = let a = s.args in take-of a.d a.hs.now a.ys.now (suc a.t) a.m (omega (
 
 pub interpolate-requires : goal.interpolate-requires
 interpolate-requires c =
-    let a = c.args in
-    let p = c.requires in
+    let s = (goal.at.interpolate-requires c).Start in
+    let a = s.args in
+    let p = s.requires in
     let n = suc a.t in
-    let h : Holders a.d (shares_of a.d n a.hs.now a.ys.now) = rw (← first (goal.at.interpolate-requires c).Start) (holders-take a.d n (whole (goal.at.interpolate-requires c).Start) p.5) in
-    let w : InWidth a.k a.d (shares_of a.d n a.hs.now a.ys.now) = rw (← first (goal.at.interpolate-requires c).Start) (all_take (λ x y. y) n (whole (goal.at.interpolate-requires c).Start) p.6) in
+    let h : Holders a.d (shares_of a.d n a.hs.now a.ys.now) = rw (← first s) (holders-take a.d n (whole s) p.5) in
+    let w : InWidth a.k a.d (shares_of a.d n a.hs.now a.ys.now) = rw (← first s) (all_take (λ x y. y) n (whole s) p.6) in
     (p.0, p.1, p.2, h, w, zero-shaped, zero-rows (a.t + 2) 64 (omega (arith, p.2)), p.7)
 
 pub decode_level-found-requires : goal.decode_level-found-requires
 decode_level-found-requires c =
-    let p = c.requires in
+    let i = (goal.at.decode_level-found-requires c).After-interpolate in
+    let p = i.requires in
     let e = c.clear_rows.ensures in
-    (p.0, p.1, p.2, p.3, p.4, p.5, p.6, c.interpolate.ensures.0, e.1, rw (add-one c.args.t) at e.0)
+    (p.0, p.1, p.2, p.3, p.4, p.5, p.6, i.interpolate.ensures.0, e.1, rw (add-one i.args.t) at e.0)
 
 pub copy_rows-requires : goal.copy_rows-requires
 copy_rows-requires c = (omega (arith, c.requires.2), c.interpolate.ensures.1, c.decode_level-found.ensures.rest)

@@ -26,8 +26,9 @@ known c = deal-clear c.args.p c.args.secret.now c.args.coefficients.now (length 
 
 pub returns-then-fault-ne0 : goal.returns-then-fault-ne0
 returns-then-fault-ne0 c =
+    let s = (goal.at.returns-then-fault-ne0 c).Start in
     let e = c.deal_fault-fault.ensures in
-    (e, sym (kept-some (F (goal.at.returns-then-fault-ne0 c).Start) c.args.out.now (D (goal.at.returns-then-fault-ne0 c).Start) (λ z. c.if-fault-ne0.true (e ∙ z))))
+    (e, sym (kept-some (F s) s.args.out.now (D s) (λ z. c.if-fault-ne0.true (e ∙ z))))
 
 pub write_shares-requires : goal.write_shares-requires
 write_shares-requires c =
@@ -42,4 +43,7 @@ write_shares-requires c =
     )
 
 pub returns : goal.returns
-returns c = (sym (no_fault (goal.at.returns c).Else-fault-ne0), c.write_shares.ensures ∙ sym (kept-none (F (goal.at.returns c).Start) c.args.out.now (D (goal.at.returns c).Start) (no_fault (goal.at.returns c).Else-fault-ne0)))
+returns c =
+    let e = (goal.at.returns c).Else-fault-ne0 in
+    let s = (goal.at.Else-fault-ne0 e).Start in
+    (sym (no_fault e), c.write_shares.ensures ∙ sym (kept-none (F s) s.args.out.now (D s) (no_fault e)))

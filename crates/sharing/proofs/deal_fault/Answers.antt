@@ -24,18 +24,20 @@ range c = params-clear c.args.p (clear c)
 abbrev widths : Start → ℕ
 widths s = first (width_fault s.args.p.k s.args.secret.now) (width_fault s.args.p.k s.args.coefficients.now)
 
-split : (c : After-first-lengths) → deal_fault c.args.p c.args.secret.now c.args.coefficients.now c.args.n ≡ first c.first-lengths.result (widths (goal.at.After-first-lengths c).Start)
+split : (c : After-first-lengths) → let s = (goal.at.After-first-lengths c).Start in
+    deal_fault s.args.p s.args.secret.now s.args.coefficients.now s.args.n ≡ first c.first-lengths.result (widths s)
 unfolding deal_fault
 split c =
-    let p = c.args.p in
-    let x = length_fault p.d (length c.args.secret.now) in
-    let y = length_fault (p.t * p.d) (length c.args.coefficients.now) in
-    let z = length_fault (p.n * p.d) c.args.n in
+    let s = (goal.at.After-first-lengths c).Start in
+    let p = s.args.p in
+    let x = length_fault p.d (length s.args.secret.now) in
+    let y = length_fault (p.t * p.d) (length s.args.coefficients.now) in
+    let z = length_fault (p.n * p.d) s.args.n in
     let e : c.first-lengths.result ≡ first x (first y z) =
     c.first-lengths.ensures
     ∙ ap₂ first c.length_fault.ensures
     (c.first.ensures ∙ ap₂ first c.length_fault-2.ensures c.length_fault-output.ensures) in
-    first-none (params_fault p) _ (clear (goal.at.After-first-lengths c).Else-fault-ne0) ∙ sym (first_three x y z (widths (goal.at.After-first-lengths c).Start)) ∙ ap (λ u. first u (widths (goal.at.After-first-lengths c).Start)) (sym e)
+    first-none (params_fault p) _ (clear (goal.at.After-first-lengths c).Else-fault-ne0) ∙ sym (first_three x y z (widths s)) ∙ ap (λ u. first u (widths s)) (sym e)
 
 pub returns-then-fault-ne0 : goal.returns-then-fault-ne0
 unfolding deal_fault
@@ -45,19 +47,22 @@ returns-then-fault-ne0 c =
 
 pub overflow_mul-p : goal.overflow_mul-p
 overflow_mul-p c =
-    let r = range (goal.at.overflow_mul-p c).Else-fault-ne0 in
-    omega (arith, few_words _ r c.args.p.n (omega (arith, few-holders _ r)))
+    let f = (goal.at.overflow_mul-p c).Else-fault-ne0 in
+    let r = range f in
+    omega (arith, few_words _ r f.args.p.n (omega (arith, few-holders _ r)))
 
 pub overflow_mul-p-2 : goal.overflow_mul-p-2
 overflow_mul-p-2 c =
-    let r = range (goal.at.overflow_mul-p-2 c).Else-fault-ne0 in
-    omega (arith, few_words _ r c.args.p.t (omega (arith, few-holders _ r, r.t-high)))
+    let f = (goal.at.overflow_mul-p-2 c).Else-fault-ne0 in
+    let r = range f in
+    omega (arith, few_words _ r f.args.p.t (omega (arith, few-holders _ r, r.t-high)))
 
 pub returns-then-lengths-ne0 : goal.returns-then-lengths-ne0
-returns-then-lengths-ne0 c = sym (split (goal.at.returns-then-lengths-ne0 c).After-first-lengths ∙ first_some c.first-lengths.result (widths (goal.at.returns-then-lengths-ne0 c).Start) c.if-lengths-ne0.true)
+returns-then-lengths-ne0 c = let f = (goal.at.returns-then-lengths-ne0 c).After-first-lengths in sym (split f ∙ first_some f.first-lengths.result (widths (goal.at.After-first-lengths f).Start) c.if-lengths-ne0.true)
 
 pub returns : goal.returns
 returns c =
+    let f = (goal.at.returns c).After-first-lengths in
     c.first-2.ensures
     ∙ ap₂ first c.width_fault.ensures c.width_fault-2.ensures
-    ∙ sym (split (goal.at.returns c).After-first-lengths ∙ first-none c.first-lengths.result (widths (goal.at.returns c).Start) c.if-lengths-ne0.false)
+    ∙ sym (split f ∙ first-none f.first-lengths.result (widths (goal.at.After-first-lengths f).Start) c.if-lengths-ne0.false)

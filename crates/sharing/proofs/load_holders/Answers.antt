@@ -9,6 +9,7 @@ use Rattle.sharing.proofs.Loaded.{front}
 use Rattle.sharing.proofs.load_holders.Reads as reads
 use Rattle.sharing.proofs.load_holders.Lts as lts
 use Rattle.sharing.proofs.load_holders.Goals as goal
+use Rattle.sharing.proofs.load_holders.Goals.{At-loop-i}
 
 -- src/lib.rt:146:5
 pub loop-i-init : goal.loop-i-init
@@ -17,14 +18,16 @@ loop-i-init c = (search rules, refl, paste-zero (replicate 63 0) 0 c.args.holder
 -- src/lib.rt:146:5
 pub loop-i-preserved : goal.loop-i-preserved
 loop-i-preserved c =
+    let l = (goal.at.loop-i-preserved c).At-loop-i in
     (
       omega arith,
-      simp length-set c.loop-i.invariant.1,
-      fill-next (replicate 63 0) c.args.holders.now c.loop-i.r c.loop-i.i 0 _ c.loop-i.invariant.2 (omega arith) (omega arith) refl,
+      simp length-set l.loop-i.invariant.1,
+      fill-next (replicate 63 0) l.args.holders.now l.loop-i.r l.loop-i.i 0 _ l.loop-i.invariant.2 (omega arith) (omega arith) refl,
     )
 
 -- src/lib.rt:140:1
 pub returns : goal.returns
 returns c =
-    let e : c.loop-i.i ≡ length c.args.holders.now = omega arith in
-    front (replicate 63 0) c.args.holders.now c.loop-i.r (length c.args.holders.now) (rw e at c.loop-i.invariant.2) refl
+    let l = (goal.at.returns c).At-loop-i in
+    let e : l.loop-i.i ≡ length l.args.holders.now = omega arith in
+    front (replicate 63 0) l.args.holders.now l.loop-i.r (length l.args.holders.now) (rw e at l.loop-i.invariant.2) refl

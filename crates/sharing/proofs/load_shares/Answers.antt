@@ -13,6 +13,7 @@ use Rattle.sharing.proofs.load_shares.Reads as reads
 use Rattle.sharing.proofs.load_shares.Lts as lts
 use Rattle.ring.proofs.load.Reads as load-reads
 use Rattle.sharing.proofs.load_shares.Goals as goal
+use Rattle.sharing.proofs.load_shares.Goals.{At-loop-i}
 
 -- src/lib.rt:160:5
 pub loop-i-init : goal.loop-i-init
@@ -29,22 +30,24 @@ load-requires c = ((omega arith, omega arith), omega (arith, mul-le-mul_right c.
 -- src/lib.rt:160:5
 pub loop-i-preserved : goal.loop-i-preserved
 loop-i-preserved c =
-    let d = c.args.d in
-    let m = c.args.m in
-    let r = rows_of d m c.args.shares.now in
-    let hr : length r ≡ m = rows-length d m c.args.shares.now in (
+    let l = (goal.at.loop-i-preserved c).At-loop-i in
+    let d = l.args.d in
+    let m = l.args.m in
+    let r = rows_of d m l.args.shares.now in
+    let hr : length r ≡ m = rows-length d m l.args.shares.now in (
       omega arith,
-      simp length-set c.loop-i.invariant.1,
-      fill-next (replicate 63 (replicate 6 0)) r c.loop-i.r c.loop-i.i [] c.load.result c.loop-i.invariant.2 (omega arith) (omega arith)
-          (c.load.ensures ∙ sym (row_at d m c.args.shares.now c.loop-i.i (omega arith))),
+      simp length-set l.loop-i.invariant.1,
+      fill-next (replicate 63 (replicate 6 0)) r l.loop-i.r l.loop-i.i [] c.load.result l.loop-i.invariant.2 (omega arith) (omega arith)
+          (c.load.ensures ∙ sym (row_at d m l.args.shares.now l.loop-i.i (omega arith))),
     )
 
 -- src/lib.rt:154:1
 pub returns : goal.returns
 returns c =
-    let d = c.args.d in
-    let m = c.args.m in
-    let ws = c.args.shares.now in
-    let e : c.loop-i.i ≡ m = omega arith in
-    ap (map (take d)) (front (replicate 63 (replicate 6 0)) (rows_of d m ws) c.loop-i.r m (rw e at c.loop-i.invariant.2) (rows-length d m ws))
+    let l = (goal.at.returns c).At-loop-i in
+    let d = l.args.d in
+    let m = l.args.m in
+    let ws = l.args.shares.now in
+    let e : l.loop-i.i ≡ m = omega arith in
+    ap (map (take d)) (front (replicate 63 (replicate 6 0)) (rows_of d m ws) l.loop-i.r m (rw e at l.loop-i.invariant.2) (rows-length d m ws))
     ∙ rows_back d m ws (omega arith)

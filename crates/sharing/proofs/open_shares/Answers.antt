@@ -18,7 +18,7 @@ use Rattle.sharing.proofs.Loaded.{loaded}
 use Rattle.sharing.proofs.Opens.{opening-clear, opening-stopped}
 use borrow.Author.Rules.{rules}
 use Rattle.sharing.proofs.open_shares.Goals as goal
-use Rattle.sharing.proofs.open_shares.Goals.{After-decode-opened, After-load_shares-ys, Else-fault-ne0, Start}
+use Rattle.sharing.proofs.open_shares.Goals.{After-all_in_width-narrow, After-decode-opened, After-hand_out, After-load_shares-ys, Else-fault-ne0, Start}
 
 -- the fault of the lent shares, what the call is to give, and what is known where there is no such fault
 abbrev F : Start → ℕ
@@ -54,10 +54,11 @@ same c =
 
 pub returns-then-fault-ne0 : goal.returns-then-fault-ne0
 returns-then-fault-ne0 c =
+    let s = (goal.at.returns-then-fault-ne0 c).Start in
     let e = c.lent_fault-fault.ensures in
-    let z : O (goal.at.returns-then-fault-ne0 c).Start ≡ declines (F (goal.at.returns-then-fault-ne0 c).Start) =
-    opening-stopped c.args.p c.args.holders.now c.args.shares.now c.args.e (length c.args.out.now)
-    (length c.args.wrong.now) (length c.args.lowest.now) (λ z. c.if-fault-ne0.true (e ∙ z)) in
+    let z : O s ≡ declines (F s) =
+    opening-stopped s.args.p s.args.holders.now s.args.shares.now s.args.e (length s.args.out.now)
+    (length s.args.wrong.now) (length s.args.lowest.now) (λ z. c.if-fault-ne0.true (e ∙ z)) in
     rw z (e, (refl, (refl, refl)))
 
 pub load_holders-hs-requires : goal.load_holders-hs-requires
@@ -80,15 +81,17 @@ ordered l =
 
 pub decode-opened-requires : goal.decode-opened-requires
 decode-opened-requires c =
-    let p = c.args.p in
-    let k = known (goal.at.decode-opened-requires c).Else-fault-ne0 in
-    let hs = c.args.holders.now in
-    let ws = c.args.shares.now in (
+    let w = (goal.at.decode-opened-requires c).After-all_in_width-narrow in
+    let l = (goal.at.After-all_in_width-narrow w).After-load_shares-ys in
+    let p = l.args.p in
+    let k = known (goal.at.After-load_shares-ys l).Else-fault-ne0 in
+    let hs = l.args.holders.now in
+    let ws = l.args.shares.now in (
       k.params,
-      few (goal.at.decode-opened-requires c).Else-fault-ne0,
-      ordered (goal.at.decode-opened-requires c).After-load_shares-ys,
-      rw (same (goal.at.decode-opened-requires c).After-load_shares-ys) (lent-sized p.d hs ws k.words_length),
-      λ n. rw (same (goal.at.decode-opened-requires c).After-load_shares-ys) (lent-width p.k p.d hs ws k.words_length (sym c.all_in_width-narrow.ensures ∙ n)),
+      few (goal.at.After-load_shares-ys l).Else-fault-ne0,
+      ordered l,
+      rw (same l) (lent-sized p.d hs ws k.words_length),
+      λ n. rw (same l) (lent-width p.k p.d hs ws k.words_length (sym w.all_in_width-narrow.ensures ∙ n)),
       search rules,
       search rules,
       zero-shaped,
@@ -102,24 +105,30 @@ hands : (a : After-decode-opened) →
     Handed p.k p.d p.t (lent p.d a.args.holders.now a.args.shares.now) a.decode-opened.result.fault (rows a) a.decode-opened.result.wrong
     (answer_to p a.args.e (lent p.d a.args.holders.now a.args.shares.now))
 hands a =
-    let p = a.args.p in
-    let e = rw (same (goal.at.After-decode-opened a).After-load_shares-ys) at a.decode-opened.ensures in
-    handed p.k p.d p.t (lent p.d a.args.holders.now a.args.shares.now) a.decode-opened.result.fault _ a.decode-opened.result.wrong _
+    let l = (goal.at.After-decode-opened a).After-load_shares-ys in
+    let p = l.args.p in
+    let e = rw (same l) at a.decode-opened.ensures in
+    handed p.k p.d p.t (lent p.d l.args.holders.now l.args.shares.now) a.decode-opened.result.fault _ a.decode-opened.result.wrong _
     e.1.1 e.0 e.1.0
 
 pub hand_out-requires : goal.hand_out-requires
 hand_out-requires c =
-    let k = known (goal.at.hand_out-requires c).Else-fault-ne0 in
-    (k.params, few (goal.at.hand_out-requires c).Else-fault-ne0, ordered (goal.at.hand_out-requires c).After-load_shares-ys, c.decode-opened.ensures.shaped, k.output, k.wrong_output, k.lowest_output, rw (same (goal.at.hand_out-requires c).After-load_shares-ys) (hands (goal.at.hand_out-requires c).After-decode-opened).set)
+    let a = (goal.at.hand_out-requires c).After-decode-opened in
+    let l = (goal.at.After-decode-opened a).After-load_shares-ys in
+    let k = known (goal.at.After-load_shares-ys l).Else-fault-ne0 in
+    (k.params, few (goal.at.After-load_shares-ys l).Else-fault-ne0, ordered l, a.decode-opened.ensures.shaped, k.output, k.wrong_output, k.lowest_output, rw (same l) (hands a).set)
 
 pub returns : goal.returns
 returns c =
-    let h = rw (same (goal.at.returns c).After-load_shares-ys) at c.hand_out.ensures in
-    let g = hands (goal.at.returns c).After-decode-opened in
+    let f = (goal.at.returns c).After-hand_out in
+    let a = (goal.at.After-hand_out f).After-decode-opened in
+    let l = (goal.at.After-decode-opened a).After-load_shares-ys in
+    let h = rw (same l) at f.hand_out.ensures in
+    let g = hands a in
     let z =
-    opening-clear c.args.p c.args.holders.now c.args.shares.now c.args.e (length c.args.out.now) (length c.args.wrong.now)
-    (length c.args.lowest.now) (no_fault (goal.at.returns c).Else-fault-ne0) in
+    opening-clear l.args.p l.args.holders.now l.args.shares.now l.args.e (length l.args.out.now) (length l.args.wrong.now)
+    (length l.args.lowest.now) (no_fault (goal.at.After-load_shares-ys l).Else-fault-ne0) in
     rw z (
       h.0 ∙ g.fault,
-      (h.1.0 ∙ g.secret c.args.out.now, (h.1.1.0 ∙ g.wrong c.args.wrong.now, h.1.1.1 ∙ g.lowest c.args.lowest.now)),
+      (h.1.0 ∙ g.secret l.args.out.now, (h.1.1.0 ∙ g.wrong l.args.wrong.now, h.1.1.1 ∙ g.lowest l.args.lowest.now)),
     )

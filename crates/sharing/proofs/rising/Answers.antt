@@ -8,6 +8,7 @@ use Rattle.sharing.proofs.Lent.{rising-low, rising-high, rising-next}
 use Rattle.sharing.proofs.rising.Reads as reads
 use Rattle.sharing.proofs.rising.Lts as lts
 use Rattle.sharing.proofs.rising.Goals as goal
+use Rattle.sharing.proofs.rising.Goals.{At-loop-i}
 
 -- src/lib.rt:100:5
 pub loop-i-init : goal.loop-i-init
@@ -15,24 +16,30 @@ loop-i-init c = (search rules, refl)
 
 -- src/lib.rt:103:13
 pub returns-then-h-prev : goal.returns-then-h-prev
-returns-then-h-prev c = sym (c.loop-i.invariant.1 ∙ rising-low c.args.n c.loop-i.prev c.args.holders.now c.loop-i.i (omega arith) c.if-h-prev.true)
+returns-then-h-prev c =
+    let l = (goal.at.returns-then-h-prev c).At-loop-i in
+    sym (l.loop-i.invariant.1 ∙ rising-low l.args.n l.loop-i.prev l.args.holders.now l.loop-i.i (omega arith) c.if-h-prev.true)
 
 -- src/lib.rt:106:13
 pub returns-then-n-h : goal.returns-then-n-h
 returns-then-n-h c =
-    sym (c.loop-i.invariant.1
-    ∙ rising-high c.args.n c.loop-i.prev c.args.holders.now c.loop-i.i (omega arith) c.if-h-prev.false c.if-n-h.true)
+    let l = (goal.at.returns-then-n-h c).At-loop-i in
+    sym (l.loop-i.invariant.1
+    ∙ rising-high l.args.n l.loop-i.prev l.args.holders.now l.loop-i.i (omega arith) c.if-h-prev.false c.if-n-h.true)
 
 -- src/lib.rt:100:5
 pub loop-i-preserved : goal.loop-i-preserved
 loop-i-preserved c =
+    let l = (goal.at.loop-i-preserved c).At-loop-i in
     (
       omega arith,
-      c.loop-i.invariant.1
-          ∙ rising-next c.args.n c.loop-i.prev c.args.holders.now c.loop-i.i (omega arith) c.if-h-prev.false c.if-n-h.false,
+      l.loop-i.invariant.1
+          ∙ rising-next l.args.n l.loop-i.prev l.args.holders.now l.loop-i.i (omega arith) c.if-h-prev.false c.if-n-h.false,
     )
 
 -- src/lib.rt:95:1
 pub returns : goal.returns
 unfolding rising_to
-returns c = sym (c.loop-i.invariant.1 ∙ rw (drop_of_length-le c.args.holders.now {i = c.loop-i.i} c.loop-i-test.false))
+returns c =
+    let l = (goal.at.returns c).At-loop-i in
+    sym (l.loop-i.invariant.1 ∙ rw (drop_of_length-le l.args.holders.now {i = l.loop-i.i} c.loop-i-test.false))

@@ -9,6 +9,7 @@ use Rattle.galois.proofs.Points.{length-point}
 use Rattle.sharing.proofs.Elements.{elements_from}
 use Rattle.sharing.proofs.Horner.{above, horner-start, horner-turn, horner-end}
 use Rattle.sharing.proofs.share_by.Goals as goal
+use Rattle.sharing.proofs.share_by.Goals.{At-loop-at}
 
 -- where some are before, the last of these begins at (i - 1) d
 back : (i d : ℕ) → 0 < i * d → (0 < i) × (d ≤ i * d) × (i * d - d ≡ (i - 1) * d)
@@ -40,24 +41,26 @@ overflow_sub-at c =
 
 pub load-requires : goal.load-requires
 load-requires c =
-    let v = c.loop-at.invariant in
-    let b = back v.0 c.args.d (omega (arith, v.2)) in
-    ((omega arith, omega arith), omega (arith, v.2, b.1, c.requires.3, mul-le-mul_right c.args.d v.1))
+    let l = (goal.at.load-requires c).At-loop-at in
+    let v = l.loop-at.invariant in
+    let b = back v.0 l.args.d (omega (arith, v.2)) in
+    ((omega arith, omega arith), omega (arith, v.2, b.1, l.requires.3, mul-le-mul_right l.args.d v.1))
 
 pub loop-at-preserved : goal.loop-at-preserved
 loop-at-preserved c =
-    let d = c.args.d in
-    let x = c.args.x in
-    let v = c.loop-at.invariant in
+    let l = (goal.at.loop-at-preserved c).At-loop-at in
+    let d = l.args.d in
+    let x = l.args.x in
+    let v = l.loop-at.invariant in
     let b = back v.0 d (omega (arith, v.2)) in
-    let e : c.loop-at.at - d ≡ (v.0 - 1) * d = rw v.2 b.2 in (
+    let e : l.loop-at.at - d ≡ (v.0 - 1) * d = rw v.2 b.2 in (
       v.0 - 1,
       omega (arith, v.1),
       e,
       c.product_by_point-r.ensures
           ∙ rw (c.sum-s.ensures, c.load.ensures, e)
-          (horner-turn 64 d (omega arith) (omega arith) (point d x) (length-point d x) c.args.t c.args.coefficients.now c.requires.3
-          c.loop-at.r v.0 b.0 v.1 v.3),
+          (horner-turn 64 d (omega arith) (omega arith) (point d x) (length-point d x) l.args.t l.args.coefficients.now l.requires.3
+          l.loop-at.r v.0 b.0 v.1 v.3),
     )
 
 -- none is before
@@ -67,12 +70,13 @@ none (suc i) d h e = absurd (omega (arith, suc-mul i d))
 
 pub returns : goal.returns
 returns c =
-    let d = c.args.d in
-    let x = c.args.x in
-    let v = c.loop-at.invariant in
-    let z : c.loop-at.at ≡ 0 = omega arith in
+    let l = (goal.at.returns c).At-loop-at in
+    let d = l.args.d in
+    let x = l.args.x in
+    let v = l.loop-at.invariant in
+    let z : l.loop-at.at ≡ 0 = omega arith in
     let e : v.0 ≡ 0 = none v.0 d (omega arith) (sym v.2 ∙ z) in
     c.sum.ensures
     ∙ rw c.load-2.ensures
-    (horner-end 64 d (omega arith) (omega arith) (point d x) (length-point d x) c.args.t c.args.coefficients.now c.requires.3
-    c.args.secret.now c.loop-at.r c.requires.2 (rw e at v.3))
+    (horner-end 64 d (omega arith) (omega arith) (point d x) (length-point d x) l.args.t l.args.coefficients.now l.requires.3
+    l.args.secret.now l.loop-at.r l.requires.2 (rw e at v.3))

@@ -9,6 +9,6 @@ use Rattle.sliced.proofs.add_scaled.Goals as goal
 
 pub returns : goal.returns
 returns c =
-    let hs : length c.args.t2 ≡ 6 = omega (arith, c.well_formed) in
-    let hb : length c.args.t3 ≡ 6 = omega (arith, c.well_formed) in
-    sym (zip-six (plus_lane c.args.c) c.args.t2 c.args.t3 hs hb)
+    let hs : length c.args.s ≡ 6 = omega (arith, c.well_formed) in
+    let hb : length c.args.b ≡ 6 = omega (arith, c.well_formed) in
+    sym (zip-six (plus_lane c.args.c) c.args.s c.args.b hs hb)

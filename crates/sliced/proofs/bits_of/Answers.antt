@@ -8,5 +8,5 @@ use Rattle.sliced.proofs.bits_of.Goals as goal
 
 pub returns : goal.returns
 returns c =
-    let hy : length c.args.t1 ≡ 6 = omega (arith, c.well_formed) in
-    sym (lane-six c.args.t1 c.args.v hy)
+    let hy : length c.args.y ≡ 6 = omega (arith, c.well_formed) in
+    sym (lane-six c.args.y c.args.v hy)

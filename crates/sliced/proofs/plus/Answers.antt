@@ -11,6 +11,6 @@ use Rattle.sliced.proofs.plus.Goals as goal
 pub returns : goal.returns
 unfolding plus_lanes
 returns c =
-    let ha : length c.args.t1 ≡ 6 = omega (arith, c.well_formed) in
-    let hb : length c.args.t2 ≡ 6 = omega (arith, c.well_formed) in
-    sym (zip-six bit_xor c.args.t1 c.args.t2 ha hb)
+    let ha : length c.args.a ≡ 6 = omega (arith, c.well_formed) in
+    let hb : length c.args.b ≡ 6 = omega (arith, c.well_formed) in
+    sym (zip-six bit_xor c.args.a c.args.b ha hb)

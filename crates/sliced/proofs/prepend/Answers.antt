@@ -12,11 +12,11 @@ use Rattle.sliced.proofs.prepend.Goals as goal
 use Rattle.sliced.proofs.prepend.Goals.{Start}
 
 -- bits, and words with room for one more
-fit : (s : Start) (j : ℕ) → j < 6 → (get_or s.args.t1 j 0 ≤ 1) × (get_or s.args.t2 j 0 < 2 ^ 63)
+fit : (s : Start) (j : ℕ) → j < 6 → (get_or s.args.e j 0 ≤ 1) × (get_or s.args.r j 0 < 2 ^ 63)
 fit s j h =
-    let he : length s.args.t1 ≡ 6 = omega (arith, s.well_formed) in
-    let hr : length s.args.t2 ≡ 6 = omega (arith, s.well_formed) in
-    (le_of_suc-le-suc (width-at 1 s.args.t1 j s.requires.0 (omega arith)), width-at 63 s.args.t2 j s.requires.1 (omega arith))
+    let he : length s.args.e ≡ 6 = omega (arith, s.well_formed) in
+    let hr : length s.args.r ≡ 6 = omega (arith, s.well_formed) in
+    (le_of_suc-le-suc (width-at 1 s.args.e j s.requires.0 (omega arith)), width-at 63 s.args.r j s.requires.1 (omega arith))
 
 pub push-requires : goal.push-requires
 push-requires c = fit c 0 (omega arith)
@@ -38,8 +38,8 @@ push-requires-6 c = fit (goal.at.push-requires-6 c).Start 5 (omega arith)
 
 pub returns : goal.returns
 returns c =
-    let he : length c.args.t1 ≡ 6 = omega (arith, c.well_formed) in
-    let hr : length c.args.t2 ≡ 6 = omega (arith, c.well_formed) in (
+    let he : length c.args.e ≡ 6 = omega (arith, c.well_formed) in
+    let hr : length c.args.r ≡ 6 = omega (arith, c.well_formed) in (
       rw (
         c.push.ensures,
         c.push-2.ensures,
@@ -48,6 +48,6 @@ returns c =
         c.push-5.ensures,
         c.push-6.ensures,
       )
-          (sym (zip-six under c.args.t1 c.args.t2 he hr)),
+          (sym (zip-six under c.args.e c.args.r he hr)),
       refl,
     )

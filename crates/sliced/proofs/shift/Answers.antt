@@ -11,10 +11,10 @@ use Rattle.sliced.proofs.shift.Goals as goal
 use Rattle.sliced.proofs.shift.Goals.{Start}
 
 -- the modulus's coefficients are 0 and 1
-coefficient : (s : Start) (j : ℕ) → j < 6 → get_or s.args.t2 j 0 ≤ 1
+coefficient : (s : Start) (j : ℕ) → j < 6 → get_or s.args.low j 0 ≤ 1
 coefficient s j h =
-    let hl : length s.args.t2 ≡ 6 = omega (arith, s.well_formed) in
-    low_bit s.args.d s.args.t2 s.requires.1 s.requires.0.1 j (omega arith)
+    let hl : length s.args.low ≡ 6 = omega (arith, s.well_formed) in
+    low_bit s.args.d s.args.low s.requires.1 s.requires.0.1 j (omega arith)
 
 pub down-requires : goal.down-requires
 down-requires c = coefficient c 0 (omega arith)
@@ -36,8 +36,8 @@ down-requires-6 c = coefficient (goal.at.down-requires-6 c).Start 5 (omega arith
 
 pub returns : goal.returns
 returns c =
-    let hl : length c.args.t2 ≡ 6 = omega (arith, c.well_formed) in
-    let hr : length c.args.t3 ≡ 6 = omega (arith, c.well_formed) in
+    let hl : length c.args.low ≡ 6 = omega (arith, c.well_formed) in
+    let hr : length c.args.r ≡ 6 = omega (arith, c.well_formed) in
     rw (
       c.down.ensures,
       c.down-2.ensures,
@@ -46,4 +46,4 @@ returns c =
       c.down-5.ensures,
       c.down-6.ensures,
     )
-    (sym (zip-shifted (down_lane (get_or c.args.t3 (c.args.d - 1) 0)) c.args.t3 c.args.t2 hr hl))
+    (sym (zip-shifted (down_lane (get_or c.args.r (c.args.d - 1) 0)) c.args.r c.args.low hr hl))

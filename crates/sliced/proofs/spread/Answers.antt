@@ -11,7 +11,7 @@ use Rattle.sliced.proofs.spread.Goals as goal
 pub returns : goal.returns
 unfolding spread_lane
 returns c =
-    let ha : length c.args.t1 ≡ 6 = omega (arith, c.well_formed) in
+    let ha : length c.args.a ≡ 6 = omega (arith, c.well_formed) in
     rw (
       c.fill.ensures,
       c.fill-2.ensures,
@@ -20,4 +20,4 @@ returns c =
       c.fill-5.ensures,
       c.fill-6.ensures,
     )
-    (sym (map-six (λ w. w / 2 ^ c.args.i % 2 * (2 ^ 64 - 1)) c.args.t1 ha))
+    (sym (map-six (λ w. w / 2 ^ c.args.i % 2 * (2 ^ 64 - 1)) c.args.a ha))

@@ -74,12 +74,13 @@ loop-w-smaller c = omega (arith, holder-room (goal.at.loop-w-smaller c).In-loop-
 
 pub loop-w-preserved : goal.loop-w-preserved
 loop-w-preserved c =
+    let b = (goal.at.loop-w-preserved c).In-loop-w in
     let w = c.put_changed-p in
-    let n = c.args.number in (
-      holder-room (goal.at.loop-w-preserved c).In-loop-w,
-      others-lt (goal.at.loop-w-preserved c).In-loop-w,
-      w.auto.0 ∙ c.loop-w.invariant.2,
-      left-more (changed_line n (holder (goal.at.loop-w-preserved c).In-loop-w)) (rest_lines n (holder (goal.at.loop-w-preserved c).In-loop-w) (others (goal.at.loop-w-preserved c).In-loop-w)) (room (goal.at.loop-w-preserved c).In-loop-w) (rw (text (goal.at.loop-w-preserved c).In-loop-w) at c.loop-w.invariant.3) w.ensures,
+    let n = b.args.number in (
+      holder-room b,
+      others-lt b,
+      w.auto.0 ∙ b.loop-w.invariant.2,
+      left-more (changed_line n (holder b)) (rest_lines n (holder b) (others b)) (room b) (rw (text b) at b.loop-w.invariant.3) w.ensures,
     )
 
 pub returns : goal.returns

@@ -22,27 +22,32 @@ abbrev text1 : Start → List ℕ
 text1 s = decimal s.args.number
 
 part1 : (c : After-put_decimal-p) → Upto (goal.at.After-put_decimal-p c).Start 20 (text1 (goal.at.After-put_decimal-p c).Start) c.put_decimal-p.new.out c.put_decimal-p.result
-part1 c = record { wrote = c.put_decimal-p.ensures; kept = c.put_decimal-p.auto.0; short = twenty c.args.number (omega arith) }
+part1 c = record { wrote = c.put_decimal-p.ensures; kept = c.put_decimal-p.auto.out; short = twenty c.args.number (omega arith) }
 
 abbrev text2 : Start → List ℕ
 text2 s = text1 s ++ ascii " "
 
 part2 : (c : After-put_byte-q) → Upto (goal.at.After-put_byte-q c).Start 21 (text2 (goal.at.After-put_byte-q c).Start) c.put_byte-q.new.out c.put_byte-q.result
-part2 c = part-more (ascii " ") 1 (omega arith) (omega (arith, c.requires)) (part1 (goal.at.After-put_byte-q c).After-put_decimal-p) c.put_byte-q.ensures c.put_byte-q.auto.0
+part2 c =
+    let b = (goal.at.After-put_byte-q c).After-put_decimal-p in
+    part-more (ascii " ") 1 (omega arith) (omega (arith, c.requires)) (part1 b) c.put_byte-q.ensures c.put_byte-q.auto.out
 
 abbrev text3 : Start → List ℕ
 text3 s = text2 s ++ decimal s.args.state
 
 part3 : (c : After-put_decimal-r) → Upto (goal.at.After-put_decimal-r c).Start 41 (text3 (goal.at.After-put_decimal-r c).Start) c.put_decimal-r.new.out c.put_decimal-r.result
 part3 c =
+    let b = (goal.at.After-put_decimal-r c).After-put_byte-q in
     part-more (decimal c.args.state) 20 (twenty c.args.state (omega arith))
-    (omega (arith, c.requires)) (part2 (goal.at.After-put_decimal-r c).After-put_byte-q) c.put_decimal-r.ensures c.put_decimal-r.auto.0
+    (omega (arith, c.requires)) (part2 b) c.put_decimal-r.ensures c.put_decimal-r.auto.out
 
 abbrev text4 : Start → List ℕ
 text4 s = text3 s ++ ascii " - -\n"
 
 part4 : (c : After-put_bytes) → Upto (goal.at.After-put_bytes c).Start 46 (text4 (goal.at.After-put_bytes c).Start) c.put_bytes.new.out c.put_bytes.result
-part4 c = part-more (ascii " - -\n") 5 (omega arith) (omega (arith, c.requires)) (part3 (goal.at.After-put_bytes c).After-out-3-1) c.put_bytes.ensures c.put_bytes.auto.0
+part4 c =
+    let b = (goal.at.After-put_bytes c).After-out-3-1 in
+    part-more (ascii " - -\n") 5 (omega arith) (omega (arith, c.requires)) (part3 b) c.put_bytes.ensures c.put_bytes.auto.out
 
 pub put_decimal-p-requires : goal.put_decimal-p-requires
 put_decimal-p-requires c = omega (arith, c.requires, twenty c.args.number (omega arith))

@@ -12,7 +12,7 @@ use Rattle.text.proofs.put_holder.Lts as lts
 use Rattle.decimal.proofs.put_byte.Reads as put-byte-reads
 use Rattle.decimal.proofs.put_decimal.Reads as put-decimal-reads
 use Rattle.text.proofs.put_holder.Goals as goal
-use Rattle.text.proofs.put_holder.Goals.{After-put_byte-q, Start}
+use Rattle.text.proofs.put_holder.Goals.{After-put_byte-q, After-put_decimal-p, Start}
 
 abbrev holder : Start → List ℕ
 holder s = decimal s.args.holder
@@ -27,31 +27,38 @@ room s = omega (arith, s.requires.1, length-append (holder s) (ascii "/"), lengt
 slash : (c : After-put_byte-q)
     → Wrote c.args.out.now c.args.at (holder (goal.at.After-put_byte-q c).Start ++ ascii "/") c.put_byte-q.new.out c.put_byte-q.result
 slash c =
-    wrote-more c.args.out.now (holder (goal.at.After-put_byte-q c).Start) (ascii "/") c.args.at (omega (arith, room (goal.at.After-put_byte-q c).Start))
+    let s = (goal.at.After-put_byte-q c).Start in
+    wrote-more s.args.out.now (holder s) (ascii "/") s.args.at (omega (arith, room s))
     c.put_decimal-p.ensures c.put_byte-q.ensures
 
 pub put_decimal-p-requires : goal.put_decimal-p-requires
 put_decimal-p-requires c = omega (arith, room (goal.at.put_decimal-p-requires c).Start)
 
 pub put_byte-q-requires : goal.put_byte-q-requires
-put_byte-q-requires c = omega (arith, room (goal.at.put_byte-q-requires c).Start, c.put_decimal-p.ensures.1, c.put_decimal-p.auto.0)
+put_byte-q-requires c =
+    let d = (goal.at.put_byte-q-requires c).After-put_decimal-p in
+    omega (arith, room (goal.at.After-put_decimal-p d).Start, d.put_decimal-p.ensures.1, d.put_decimal-p.auto.out)
 
 pub overflow_cast-lowest : goal.overflow_cast-lowest
 overflow_cast-lowest c = omega (arith, c.shared_slice_known-2-1.given (c.args.holder - 1))
 
 pub put_decimal-requires : goal.put_decimal-requires
 put_decimal-requires c =
+    let b = (goal.at.put_decimal-requires c).After-put_byte-q in
+    let s = (goal.at.After-put_byte-q b).Start in
     omega (
       arith,
-      room (goal.at.put_decimal-requires c).Start,
-      (slash (goal.at.put_decimal-requires c).After-put_byte-q).1,
-      length-append (holder (goal.at.put_decimal-requires c).Start) (ascii "/"),
-      c.put_byte-q.auto.0,
-      c.put_decimal-p.auto.0,
+      room s,
+      (slash b).1,
+      length-append (holder s) (ascii "/"),
+      b.put_byte-q.auto.out,
+      b.put_decimal-p.auto.out,
     )
 
 pub returns : goal.returns
 unfolding holder_text
 returns c =
-    wrote-more c.args.out.now (holder (goal.at.returns c).Start ++ ascii "/") (position (goal.at.returns c).Start) c.args.at
-    (omega (arith, room (goal.at.returns c).Start, length-append (holder (goal.at.returns c).Start) (ascii "/"))) (slash (goal.at.returns c).After-put_byte-q) c.put_decimal.ensures
+    let b = (goal.at.returns c).After-put_byte-q in
+    let s = (goal.at.After-put_byte-q b).Start in
+    wrote-more s.args.out.now (holder s ++ ascii "/") (position s) s.args.at
+    (omega (arith, room s, length-append (holder s) (ascii "/"))) (slash b) c.put_decimal.ensures

@@ -54,7 +54,9 @@ written_one : (c : After-put_holder-p
     → let l = c.before.before in
     let s = l.before.before.before.before in
     Left s.args.out.now s.args.at (holders_text (lowest l) s.args.set) c.put-holder.new.0 c.put-holder.result (after l)
-written_one c = left-more (here (goal.at.After-put_holder-p c).At-loop-w) (after (goal.at.After-put_holder-p c).At-loop-w) (omega (arith, room (goal.at.After-put_holder-p c).At-loop-w)) (rw (text (goal.at.After-put_holder-p c).At-loop-w) at c.loop-w.invariant.3) c.put_holder-p.ensures
+written_one c =
+    let l = (goal.at.After-put_holder-p c).At-loop-w in
+    left-more (here l) (after l) (omega (arith, room l)) (rw (text l) at l.loop-w.invariant.3) c.put_holder-p.ensures
 
 pub put_byte-requires : goal.put_byte-requires
 put_byte-requires c = omega (arith, c.requires, ap length (no-holders c.args.lowest.now c.args.set c.if-set-eq0.true))
@@ -85,28 +87,32 @@ put_holder-p-requires c = omega (arith, holder-room (goal.at.put_holder-p-requir
 
 pub returns-then-w-eq0 : goal.returns-then-w-eq0
 returns-then-w-eq0 c =
+    let l = (goal.at.returns-then-w-eq0 c).At-loop-w in
     left-none
-    (rw (holders-last (lowest (goal.at.returns-then-w-eq0 c).At-loop-w) (holder (goal.at.returns-then-w-eq0 c).At-loop-w) (others (goal.at.returns-then-w-eq0 c).At-loop-w) c.if-w-eq0.true) at (written_one (goal.at.returns-then-w-eq0 c).After-put_holder-p))
+    (rw (holders-last (lowest l) (holder l) (others l) c.if-w-eq0.true) at (written_one (goal.at.returns-then-w-eq0 c).After-put_holder-p))
 
 pub put_byte-p-requires : goal.put_byte-p-requires
 put_byte-p-requires c =
-    let e = ap length (holders-comma (lowest (goal.at.put_byte-p-requires c).At-loop-w) (holder (goal.at.put_byte-p-requires c).At-loop-w) (others (goal.at.put_byte-p-requires c).At-loop-w) (holder-room (goal.at.put_byte-p-requires c).At-loop-w) (pos_of_ne-zero c.if-w-eq0.false) (others-lt (goal.at.put_byte-p-requires c).At-loop-w)) in
-    omega (arith, e, room (goal.at.put_byte-p-requires c).At-loop-w, c.put_holder-p.ensures.1, c.put_holder-p.auto.0)
+    let l = (goal.at.put_byte-p-requires c).At-loop-w in
+    let e = ap length (holders-comma (lowest l) (holder l) (others l) (holder-room l) (pos_of_ne-zero c.if-w-eq0.false) (others-lt l)) in
+    omega (arith, e, room l, c.put_holder-p.ensures.1, c.put_holder-p.auto.out)
 
 pub loop-w-smaller : goal.loop-w-smaller
 loop-w-smaller c = omega (arith, holder-room (goal.at.loop-w-smaller c).At-loop-w)
 
 pub loop-w-preserved : goal.loop-w-preserved
 loop-w-preserved c =
+    let d = (goal.at.loop-w-preserved c).After-put_holder-p in
+    let l = (goal.at.loop-w-preserved c).At-loop-w in
     let p = pos_of_ne-zero c.if-w-eq0.false in
-    let e = holders-comma (lowest (goal.at.loop-w-preserved c).At-loop-w) (holder (goal.at.loop-w-preserved c).At-loop-w) (others (goal.at.loop-w-preserved c).At-loop-w) (holder-room (goal.at.loop-w-preserved c).At-loop-w) p (others-lt (goal.at.loop-w-preserved c).At-loop-w) in (
-      holder-room (goal.at.loop-w-preserved c).At-loop-w,
-      (p, others-lt (goal.at.loop-w-preserved c).At-loop-w),
-      c.put_byte-p.auto.0 ∙ c.put_holder-p.auto.0 ∙ c.loop-w.invariant.2,
+    let e = holders-comma (lowest l) (holder l) (others l) (holder-room l) p (others-lt l) in (
+      holder-room l,
+      (p, others-lt l),
+      c.put_byte-p.auto.out ∙ d.put_holder-p.auto.out ∙ l.loop-w.invariant.2,
       left-more
           (44 ∷ [])
-          (rest_text (lowest (goal.at.loop-w-preserved c).At-loop-w) (holder (goal.at.loop-w-preserved c).At-loop-w) (others (goal.at.loop-w-preserved c).At-loop-w))
-          (omega (arith, ap length e, room (goal.at.loop-w-preserved c).At-loop-w, c.put_holder-p.ensures.1, c.put_holder-p.auto.0))
-          (rw e at (written_one (goal.at.loop-w-preserved c).After-put_holder-p))
+          (rest_text (lowest l) (holder l) (others l))
+          (omega (arith, ap length e, room l, d.put_holder-p.ensures.1, d.put_holder-p.auto.out))
+          (rw e at (written_one d))
           c.put_byte-p.ensures,
     )

@@ -24,21 +24,24 @@ abbrev text1 : Start → List ℕ
 text1 s = decimal s.args.number
 
 part1 : (c : After-put_decimal-p) → Upto (goal.at.After-put_decimal-p c).Start 20 (text1 (goal.at.After-put_decimal-p c).Start) c.put_decimal-p.new.out c.put_decimal-p.result
-part1 c = record { wrote = c.put_decimal-p.ensures; kept = c.put_decimal-p.auto.0; short = twenty c.args.number (omega arith) }
+part1 c = record { wrote = c.put_decimal-p.ensures; kept = c.put_decimal-p.auto.out; short = twenty c.args.number (omega arith) }
 
 abbrev text2 : Start → List ℕ
 text2 s = text1 s ++ ascii " "
 
 part2 : (c : After-put_byte-q) → Upto (goal.at.After-put_byte-q c).Start 21 (text2 (goal.at.After-put_byte-q c).Start) c.put_byte-q.new.out c.put_byte-q.result
-part2 c = part-more (ascii " ") 1 (omega arith) (omega (arith, c.requires)) (part1 (goal.at.After-put_byte-q c).After-put_decimal-p) c.put_byte-q.ensures c.put_byte-q.auto.0
+part2 c =
+    let b = (goal.at.After-put_byte-q c).After-put_decimal-p in
+    part-more (ascii " ") 1 (omega arith) (omega (arith, c.requires)) (part1 b) c.put_byte-q.ensures c.put_byte-q.auto.out
 
 abbrev text3 : Start → List ℕ
 text3 s = text2 s ++ refused_line s.args.n
 
 part3 : (c : After-put_refused) → Upto (goal.at.After-put_refused c).Start (21 + line_room) (text3 (goal.at.After-put_refused c).Start) c.Put-refused.new.0 c.Put-refused.result
 part3 c =
+    let b = (goal.at.After-put_refused c).After-put_byte-q in
     part-more (refused_line c.args.n) line_room (refused-length c.args.n (omega arith))
-    (omega (arith, c.requires)) (part2 (goal.at.After-put_refused c).After-put_byte-q) c.Put-refused.ensures c.Put-refused.auto.0
+    (omega (arith, c.requires)) (part2 b) c.Put-refused.ensures c.Put-refused.auto.0
 
 pub put_decimal-p-requires : goal.put_decimal-p-requires
 put_decimal-p-requires c = omega (arith, c.requires, twenty c.args.number (omega arith))

@@ -38,13 +38,15 @@ abbrev text1 : Start → List ℕ
 text1 s = decimal s.args.number
 
 part1 : (c : After-put_decimal-p) → Upto (goal.at.After-put_decimal-p c).Start 20 (text1 (goal.at.After-put_decimal-p c).Start) c.put_decimal-p.new.out c.put_decimal-p.result
-part1 c = record { wrote = c.put_decimal-p.ensures; kept = c.put_decimal-p.auto.0; short = twenty c.args.number (omega arith) }
+part1 c = record { wrote = c.put_decimal-p.ensures; kept = c.put_decimal-p.auto.out; short = twenty c.args.number (omega arith) }
 
 abbrev text2 : Start → List ℕ
 text2 s = text1 s ++ ascii " open "
 
 part2 : (c : After-put_bytes-q) → Upto (goal.at.After-put_bytes-q c).Start 26 (text2 (goal.at.After-put_bytes-q c).Start) c.put_bytes-q.new.out c.put_bytes-q.result
-part2 c = part-more (ascii " open ") 6 (omega arith) (omega (arith, c.requires)) (part1 (goal.at.After-put_bytes-q c).After-out-1) c.put_bytes-q.ensures c.put_bytes-q.auto.0
+part2 c =
+    let b = (goal.at.After-put_bytes-q c).After-out-1 in
+    part-more (ascii " open ") 6 (omega arith) (omega (arith, c.requires)) (part1 b) c.put_bytes-q.ensures c.put_bytes-q.auto.out
 
 holders-short : (c : After-put_bytes-q) → length (holders_text (lowest (goal.at.After-put_bytes-q c).Start) c.args.wrong) ≤ 449
 holders-short c = holders-length (lowest (goal.at.After-put_bytes-q c).Start) (λ i. (c.shared_slice_known-1.given i).fits) c.args.wrong
@@ -54,26 +56,35 @@ text3 s = text2 s ++ holders_text (lowest s) s.args.wrong
 
 part3 : (c : After-put_holders-r) → Upto (goal.at.After-put_holders-r c).Start 475 (text3 (goal.at.After-put_holders-r c).Start) c.put_holders-r.new.out c.put_holders-r.result
 part3 c =
-    part-more (holders_text (lowest (goal.at.After-put_holders-r c).Start) c.args.wrong) 449 (holders-short (goal.at.After-put_holders-r c).After-put_bytes-q)
-    (omega (arith, c.requires)) (part2 (goal.at.After-put_holders-r c).After-put_bytes-q) c.put_holders-r.ensures c.put_holders-r.auto.0
+    let s = (goal.at.After-put_holders-r c).Start in
+    let b = (goal.at.After-put_holders-r c).After-put_bytes-q in
+    part-more (holders_text (lowest s) s.args.wrong) 449 (holders-short b)
+    (omega (arith, s.requires)) (part2 b) c.put_holders-r.ensures c.put_holders-r.auto.out
 
 abbrev text4 : Start → List ℕ
 text4 s = text3 s ++ ascii " "
 
 part4 : (c : After-put_byte-s) → Upto (goal.at.After-put_byte-s c).Start 476 (text4 (goal.at.After-put_byte-s c).Start) c.put_byte-s.new.out c.put_byte-s.result
-part4 c = part-more (ascii " ") 1 (omega arith) (omega (arith, c.requires)) (part3 (goal.at.After-put_byte-s c).After-put_holders-r) c.put_byte-s.ensures c.put_byte-s.auto.0
+part4 c =
+    let b = (goal.at.After-put_byte-s c).After-put_holders-r in
+    part-more (ascii " ") 1 (omega arith) (omega (arith, c.requires)) (part3 b) c.put_byte-s.ensures c.put_byte-s.auto.out
 
 abbrev text5 : Start → List ℕ
 text5 s = text4 s ++ words_text (words s)
 
 part5 : (c : After-put_words-t) → Upto (goal.at.After-put_words-t c).Start 609 (text5 (goal.at.After-put_words-t c).Start) c.put_words-t.new.out c.put_words-t.result
-part5 c = part-more (words_text (words (goal.at.After-put_words-t c).Start)) 133 (words-short (goal.at.After-put_words-t c).Start) (omega (arith, c.requires)) (part4 (goal.at.After-put_words-t c).After-put_byte-s) c.put_words-t.ensures c.put_words-t.auto.0
+part5 c =
+    let s = (goal.at.After-put_words-t c).Start in
+    let b = (goal.at.After-put_words-t c).After-put_byte-s in
+    part-more (words_text (words s)) 133 (words-short s) (omega (arith, s.requires)) (part4 b) c.put_words-t.ensures c.put_words-t.auto.out
 
 abbrev text6 : Start → List ℕ
 text6 s = text5 s ++ ascii "\n"
 
 part6 : (c : After-put_byte) → Upto (goal.at.After-put_byte c).Start 610 (text6 (goal.at.After-put_byte c).Start) c.put_byte.new.out c.put_byte.result
-part6 c = part-more (ascii "\n") 1 (omega arith) (omega (arith, c.requires)) (part5 (goal.at.After-put_byte c).After-put_words-t) c.put_byte.ensures c.put_byte.auto.0
+part6 c =
+    let b = (goal.at.After-put_byte c).After-put_words-t in
+    part-more (ascii "\n") 1 (omega arith) (omega (arith, c.requires)) (part5 b) c.put_byte.ensures c.put_byte.auto.out
 
 pub put_decimal-p-requires : goal.put_decimal-p-requires
 put_decimal-p-requires c = omega (arith, c.requires, twenty c.args.number (omega arith))
@@ -85,16 +96,23 @@ pub put_bytes-q-requires : goal.put_bytes-q-requires
 put_bytes-q-requires c = part_room (ascii " open ") 6 (omega arith) (omega (arith, c.requires)) (part1 (goal.at.put_bytes-q-requires c).After-out-1)
 
 pub put_holders-r-requires : goal.put_holders-r-requires
-put_holders-r-requires c = (c.requires.3, part_room (holders_text (lowest (goal.at.put_holders-r-requires c).Start) c.args.wrong) 449 (holders-short (goal.at.put_holders-r-requires c).After-put_bytes-q) (omega (arith, c.requires)) (part2 (goal.at.put_holders-r-requires c).After-put_bytes-q))
+put_holders-r-requires c =
+    let b = (goal.at.put_holders-r-requires c).After-put_bytes-q in
+    let s = (goal.at.After-put_bytes-q b).Start in
+    (s.requires.3, part_room (holders_text (lowest s) s.args.wrong) 449 (holders-short b) (omega (arith, s.requires)) (part2 b))
 
 pub put_byte-s-requires : goal.put_byte-s-requires
 put_byte-s-requires c = part_room (ascii " ") 1 (omega arith) (omega (arith, c.requires)) (part3 (goal.at.put_byte-s-requires c).After-put_holders-r)
 
 pub put_words-t-requires : goal.put_words-t-requires
-put_words-t-requires c = (c.requires.0, c.requires.1, c.requires.2, part_room (words_text (words (goal.at.put_words-t-requires c).Start)) 133 (words-short (goal.at.put_words-t-requires c).Start) (omega (arith, c.requires)) (part4 (goal.at.put_words-t-requires c).After-put_byte-s))
+put_words-t-requires c =
+    let s = (goal.at.put_words-t-requires c).Start in
+    (s.requires.0, s.requires.1, s.requires.2, part_room (words_text (words s)) 133 (words-short s) (omega (arith, s.requires)) (part4 (goal.at.put_words-t-requires c).After-put_byte-s))
 
 pub put_byte-requires : goal.put_byte-requires
 put_byte-requires c = part_room (ascii "\n") 1 (omega arith) (omega (arith, c.requires)) (part5 (goal.at.put_byte-requires c).After-put_words-t)
 
 pub returns : goal.returns
-returns c = rw (open-parts c.args.number c.args.wrong (lowest (goal.at.returns c).Start) (words (goal.at.returns c).Start)) (part6 (goal.at.returns c).After-put_byte).wrote
+returns c =
+    let s = (goal.at.returns c).Start in
+    rw (open-parts s.args.number s.args.wrong (lowest s) (words s)) (part6 (goal.at.returns c).After-put_byte).wrote

@@ -22,21 +22,24 @@ abbrev text1 : Start → List ℕ
 text1 s = ascii "refused "
 
 part1 : (c : After-put_bytes-p) → Upto (goal.at.After-put_bytes-p c).Start 8 (text1 (goal.at.After-put_bytes-p c).Start) c.put_bytes-p.new.out c.put_bytes-p.result
-part1 c = record { wrote = c.put_bytes-p.ensures; kept = c.put_bytes-p.auto.0; short = omega arith }
+part1 c = record { wrote = c.put_bytes-p.ensures; kept = c.put_bytes-p.auto.out; short = omega arith }
 
 abbrev text2 : Start → List ℕ
 text2 s = text1 s ++ decimal s.args.n
 
 part2 : (c : After-put_decimal-q) → Upto (goal.at.After-put_decimal-q c).Start 28 (text2 (goal.at.After-put_decimal-q c).Start) c.put_decimal-q.new.out c.put_decimal-q.result
 part2 c =
+    let b = (goal.at.After-put_decimal-q c).After-put_bytes-p in
     part-more (decimal c.args.n) 20 (twenty c.args.n (omega arith))
-    (omega (arith, c.requires)) (part1 (goal.at.After-put_decimal-q c).After-put_bytes-p) c.put_decimal-q.ensures c.put_decimal-q.auto.0
+    (omega (arith, c.requires)) (part1 b) c.put_decimal-q.ensures c.put_decimal-q.auto.out
 
 abbrev text3 : Start → List ℕ
 text3 s = text2 s ++ ascii "\n"
 
 part3 : (c : After-put_byte) → Upto (goal.at.After-put_byte c).Start 29 (text3 (goal.at.After-put_byte c).Start) c.put_byte.new.out c.put_byte.result
-part3 c = part-more (ascii "\n") 1 (omega arith) (omega (arith, c.requires)) (part2 (goal.at.After-put_byte c).After-put_decimal-q) c.put_byte.ensures c.put_byte.auto.0
+part3 c =
+    let b = (goal.at.After-put_byte c).After-put_decimal-q in
+    part-more (ascii "\n") 1 (omega arith) (omega (arith, c.requires)) (part2 b) c.put_byte.ensures c.put_byte.auto.out
 
 -- LOST slice-aggregate-put-bytes
 slice-aggregate-put-bytes c = search rules

@@ -30,11 +30,11 @@ next s p h = omega (arith, mul-le-mul_right s.args.size h)
 
 pub loop-p-init : goal.loop-p-init
 loop-p-init c =
-    (
+    let s = (goal.at.loop-p-init c).Start in (
       omega arith,
       omega arith,
-      λ k. none_seen k (λ i. all_in_width k (jobs (goal.at.loop-p-init c).Start i)),
-      λ k h. added_none c.args.d c.args.running.now (jobs (goal.at.loop-p-init c).Start) k,
+      λ k. none_seen k (λ i. all_in_width k (jobs s i)),
+      λ k h. added_none s.args.d s.args.running.now (jobs s) k,
       refl,
       refl,
     )
@@ -42,17 +42,20 @@ loop-p-init c =
 pub add_words-seen-requires : goal.add_words-seen-requires
 add_words-seen-requires c =
     let l = c.loop-p in
-    (omega (arith, next (goal.at.add_words-seen-requires c).Start l.p c.loop-p-test.true), omega arith)
+    let s = (goal.at.add_words-seen-requires c).Start in
+    (omega (arith, next s l.p c.loop-p-test.true), omega arith)
 
 pub overflow_add-here : goal.overflow_add-here
 overflow_add-here c =
     let l = c.loop-p in
-    omega (arith, next (goal.at.overflow_add-here c).Start l.p c.loop-p-test.true)
+    let s = (goal.at.overflow_add-here c).Start in
+    omega (arith, next s l.p c.loop-p-test.true)
 
 pub loop-p-preserved : goal.loop-p-preserved
 loop-p-preserved c =
     let l = c.loop-p in
-    let a = c.args in
+    let s = (goal.at.loop-p-preserved c).Start in
+    let a = s.args in
     let w = c.add_words-seen in
     let y = w.new.1.1.1.0 in
     let u : a.d ≤ length l.running = omega arith in
@@ -61,9 +64,9 @@ loop-p-preserved c =
       omega arith,
       λ k.
           lanes k l.even l.odd w.result.even w.result.odd
-          ∙ more-seen k (bit_or l.even l.odd) _ (λ i. all_in_width k (jobs (goal.at.loop-p-preserved c).Start i)) l.p (l.invariant.2 k) (e.0 k),
-      λ k h. added_more a.d a.running.now (jobs (goal.at.loop-p-preserved c).Start) l.p (long (goal.at.loop-p-preserved c).Start l.p) l.running y u e.1 k h (l.invariant.3 k h),
-      added-rest a.d a.running.now (jobs (goal.at.loop-p-preserved c).Start) l.p (long (goal.at.loop-p-preserved c).Start l.p) l.running y u e.1 l.invariant.4,
+          ∙ more-seen k (bit_or l.even l.odd) _ (λ i. all_in_width k (jobs s i)) l.p (l.invariant.2 k) (e.0 k),
+      λ k h. added_more a.d a.running.now (jobs s) l.p (long s l.p) l.running y u e.1 k h (l.invariant.3 k h),
+      added-rest a.d a.running.now (jobs s) l.p (long s l.p) l.running y u e.1 l.invariant.4,
       w.auto.1.1.1.0 ∙ l.invariant.5,
     )
 

@@ -38,18 +38,20 @@ start c = ap (λ (x : ℕ). x + 6 + 8) c.job_at.ensures
 
 near : (c : After-job_at) → c.job_at.result ≤ length (bs (goal.at.After-job_at c).Start) + 62
 near c =
-    let h = c.args.h in
-    let w = run-within (bs (goal.at.After-job_at c).Start) c.requires.0 h c.requires.1 c.args.f c.args.a (c.args.b - c.args.a) (c.job_at.result + 6 + 8) (job_size h)
-    h.params.d c.requires.2 (ends (goal.at.After-job_at c).Start) (start c) refl refl in
+    let s = (goal.at.After-job_at c).Start in
+    let h = s.args.h in
+    let w = run-within (bs s) s.requires.0 h s.requires.1 s.args.f s.args.a (s.args.b - s.args.a) (c.job_at.result + 6 + 8) (job_size h)
+    h.params.d s.requires.2 (ends s) (start c) refl refl in
     omega (arith, w.0, w.1)
 
 abbrev Told : After-job_length-size → ℕ → List ℕ → Type 0
 Told c r y =
-    let k = c.args.h.params.k in
-    let d = c.args.h.params.d in
-    let n = c.args.b - c.args.a in
-    (in_width k r ≡ run_in_width (bs (goal.at.After-job_length-size c).Start) c.args.f c.args.a n)
-    × (reduce k (take d y) ++ drop d y ≡ added_to k (old (goal.at.After-job_length-size c).Start) (run_total (bs (goal.at.After-job_length-size c).Start) c.args.f c.args.a n)) × (length y ≡ length (old (goal.at.After-job_length-size c).Start))
+    let s = (goal.at.After-job_length-size c).Start in
+    let k = s.args.h.params.k in
+    let d = s.args.h.params.d in
+    let n = s.args.b - s.args.a in
+    (in_width k r ≡ run_in_width (bs s) s.args.f s.args.a n)
+    × (reduce k (take d y) ++ drop d y ≡ added_to k (old s) (run_total (bs s) s.args.f s.args.a n)) × (length y ≡ length (old s))
 
 -- in the arm of d: what it asks of `add_jobs`, and what it then tells
 apart : (c : After-job_length-size) → 4 + c.job_length-size.result ≡ job_size c.args.h
@@ -59,8 +61,9 @@ apart c = ap (λ (x : ℕ). 4 + x) c.job_length-size.ensures
 -- past 2, 3, 4 and 5
 last : (c : In_default) → c.args.h.params.d ≡ 6
 last c =
+    let s = (goal.at.In_default c).Start in
     let r = c.in_default.in_default-own.rest in
-    six c.args.h.params.d (book (goal.at.In_default c).Start).d-low (book (goal.at.In_default c).Start).d-high r.0.0.0.1 r.0.0.1 r.0.1 r.1
+    six s.args.h.params.d (book s).d-low (book s).d-high r.0.0.0.1 r.0.0.1 r.0.1 r.1
 
 -- where the arms meet
 met : (c : Joined-d) → Told (goal.at.Joined-d c).After-job_length-size c.match-d.seen c.match-d.running
@@ -75,10 +78,12 @@ met c =
     c.match-d.branch
 
 pub cut_words-requires : goal.cut_words-requires
-cut_words-requires c = (((book (goal.at.cut_words-requires c).Start).k-low, (book (goal.at.cut_words-requires c).Start).k-high), omega (arith, c.requires.5, (met (goal.at.cut_words-requires c).Joined-d).2))
+cut_words-requires c =
+    let s = (goal.at.cut_words-requires c).Start in
+    (((book s).k-low, (book s).k-high), omega (arith, s.requires.5, (met (goal.at.cut_words-requires c).Joined-d).2))
 
 pub shape_of-running : goal.shape_of-running
-shape_of-running c = c.cut_words.auto.1.1.0 ∙ (met (goal.at.shape_of-running c).Joined-d).2
+shape_of-running c = c.cut_words.auto.running ∙ (met (goal.at.shape_of-running c).Joined-d).2
 
 pub returns : goal.returns
 returns c =
@@ -86,7 +91,8 @@ returns c =
     (m.0, c.cut_words.ensures ∙ m.1)
 
 pub job_at-requires : goal.job_at-requires
-job_at-requires c = job-asks (bs (goal.at.job_at-requires c).Start) c.requires.0 c.args.h c.requires.1 c.args.f c.requires.2 c.args.a (omega (arith, ends (goal.at.job_at-requires c).Start))
+job_at-requires c = let s = (goal.at.job_at-requires c).Start in
+    job-asks (bs s) s.requires.0 s.args.h s.requires.1 s.args.f s.requires.2 s.args.a (omega (arith, ends s))
 
 pub overflow_add-at : goal.overflow_add-at
 overflow_add-at c = omega (arith, near c, c.well_formed)

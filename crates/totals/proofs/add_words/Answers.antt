@@ -21,11 +21,7 @@ use Rattle.totals.proofs.Sums.{zip-within}
 use Rattle.totals.proofs.Added.{zip-count, fill_here}
 use Rattle.totals.proofs.Words.{lanes, in-turn}
 use Rattle.totals.proofs.add_words.Goals as goal
-use Rattle.totals.proofs.add_words.Goals.{Start}
-
--- the first j words are added, and those seen
-abbrev Passed : Element → List ℕ → List ℕ → ℕ → ℕ → Type 0
-Passed w old new seen j = ((k : ℕ) → (in_width k seen && all_in_width k (drop j w)) ≡ all_in_width k w) × (new ≡ paste old 0 (sum 64 old w) j)
+use Rattle.totals.proofs.add_words.Goals.{After-load_word-w, After-load_word-w-then-j-d, Start}
 
 pub bounds-running-j-in-loop-j-2 : goal.bounds-running-j-in-loop-j-2
 bounds-running-j-in-loop-j-2 c = rw length-set (omega arith)
@@ -35,31 +31,35 @@ bounds-running-j-in-loop-j-3 c = rw length-set (omega arith)
 
 pub loop-j-preserved : goal.loop-j-preserved
 loop-j-preserved c =
-    let l = c.loop-j in
+    let t = (goal.at.loop-j-preserved c).After-load_word-w in
+    let l = t.loop-j in
+    let s = (goal.at.After-load_word-w t).Start in
     let e = l.even in
     let o = l.odd in
-    let v = c.load_word-v.result in
-    let u = c.load_word-w.result in
+    let v = t.load_word-v.result in
+    let u = t.load_word-w.result in
     let two : l.j + 1 + 1 ≡ l.j + 2 = omega arith in
-    let p = next (goal.at.loop-j-preserved c).Start l.running (bit_or e o) l.j _ v _ l.invariant.2 (omega arith) l.invariant.1 c.load_word-v.ensures
+    let p = next s l.running (bit_or e o) l.j _ v _ l.invariant.2 (omega arith) l.invariant.1 t.load_word-v.ensures
     c.add.ensures in
-    let q = next (goal.at.loop-j-preserved c).Start _ _ (l.j + 1) _ u _ p (omega arith) (omega (arith, l.invariant.1)) c.load_word-w.ensures c.add-in-loop-j.ensures in (
+    let q = next s _ _ (l.j + 1) _ u _ p (omega arith) (omega (arith, l.invariant.1)) t.load_word-w.ensures c.add-in-loop-j.ensures in (
       omega arith,
       omega arith,
-      rw two at (turned (goal.at.loop-j-preserved c).Start _ (bit_or (bit_or e v) (bit_or o u)) _ (l.j + 1 + 1) (λ k. lanes k e o v u ∙ in-turn k (bit_or e o) v u) q),
+      rw two at (turned s _ (bit_or (bit_or e v) (bit_or o u)) _ (l.j + 1 + 1) (λ k. lanes k e o v u ∙ in-turn k (bit_or e o) v u) q),
       simp length-set l.invariant.3,
     )
 
 -- the last word, where d is odd
 pub returns-then-j-d : goal.returns-then-j-d
 returns-then-j-d c =
-    let l = c.loop-j in
+    let t = (goal.at.returns-then-j-d c).After-load_word-w-then-j-d in
+    let l = t.loop-j in
+    let s = (goal.at.After-load_word-w-then-j-d t).Start in
     let e = l.even in
     let o = l.odd in
-    let v = c.load_word-w-then-j-d.result in
-    let p = next (goal.at.returns-then-j-d c).Start l.running (bit_or e o) l.j _ v _ l.invariant.2 (omega arith) l.invariant.1 c.load_word-w-then-j-d.ensures c.add-then-j-d.ensures in
+    let v = t.load_word-w-then-j-d.result in
+    let p = next s l.running (bit_or e o) l.j _ v _ l.invariant.2 (omega arith) l.invariant.1 t.load_word-w-then-j-d.ensures c.add-then-j-d.ensures in
     let x = bit_or (bit_or e v) (bit_or o v) in
-    done (goal.at.returns-then-j-d c).Start _ x (l.j + 1) (turned (goal.at.returns-then-j-d c).Start _ x _ (l.j + 1) (λ k. rw (or_self v) at (lanes k e o v v)) p) (omega arith)
+    done s _ x (l.j + 1) (turned s _ x _ (l.j + 1) (λ k. rw (or_self v) at (lanes k e o v v)) p) (omega arith)
 
 pub returns : goal.returns
 returns c =

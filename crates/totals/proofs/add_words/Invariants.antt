@@ -22,6 +22,10 @@ use Rattle.totals.proofs.Added.{zip-count, fill_here}
 use Rattle.totals.proofs.Words.{lanes, in-turn}
 use Rattle.totals.proofs.add_words.Given as goal
 
+-- the first j words are added, and those seen
+abbrev pub Passed : Element → List ℕ → List ℕ → ℕ → ℕ → Type 0
+Passed w old new seen j = ((k : ℕ) → (in_width k seen && all_in_width k (drop j w)) ≡ all_in_width k w) × (new ≡ paste old 0 (sum 64 old w) j)
+
 abbrev pub invariant-loop-j : goal.invariant-loop-j
 invariant-loop-j l =     (l.j ≤ l.d) × (l.here ≡ l.at + 8 * l.j) × Passed (words_from 8 l.bytes l.d l.at) l.initial.running l.running (bit_or l.even l.odd) l.j × (length l.running ≡ length l.initial.running)
 

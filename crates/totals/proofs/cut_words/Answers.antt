@@ -24,11 +24,12 @@ count s = let a = s.args in length-reduce a.k (take a.d a.running.now) ∙ lengt
 pub loop-j-preserved : goal.loop-j-preserved
 loop-j-preserved c =
     let l = c.loop-j in
-    let a = c.args in
+    let s = (goal.at.loop-j-preserved c).Start in
+    let a = s.args in
     let ws = a.running.now in (
       omega arith,
-      fill_here (λ (x : ℕ). x % 2 ^ a.k) ws (cut (goal.at.loop-j-preserved c).Start) l.running l.j c.low_bits.result l.invariant.1
-          (omega (arith, count (goal.at.loop-j-preserved c).Start)) (omega (arith, count (goal.at.loop-j-preserved c).Start))
+      fill_here (λ (x : ℕ). x % 2 ^ a.k) ws (cut s) l.running l.j c.low_bits.result l.invariant.1
+          (omega (arith, count s)) (omega (arith, count s))
           (reduce-at a.k (take a.d ws) l.j ∙ rw (get_or-take a.d ws l.j 0 (omega arith))) c.low_bits.ensures,
       simp length-set l.invariant.2,
     )
@@ -36,8 +37,9 @@ loop-j-preserved c =
 pub returns : goal.returns
 returns c =
     let l = c.loop-j in
-    let e : l.j ≡ c.args.d = omega arith in
-    fill-within c.args.running.now (cut (goal.at.returns c).Start) l.running 0 c.args.d (rw e at l.invariant.1) (count (goal.at.returns c).Start) ∙ rw zero-add
+    let s = (goal.at.returns c).Start in
+    let e : l.j ≡ s.args.d = omega arith in
+    fill-within s.args.running.now (cut s) l.running 0 s.args.d (rw e at l.invariant.1) (count s) ∙ rw zero-add
 
 pub loop-j-init : goal.loop-j-init
 loop-j-init c = (omega arith, refl, refl)

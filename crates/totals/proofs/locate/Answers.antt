@@ -7,15 +7,16 @@ use Rattle.words.specs.Refusal.{first}
 use Rattle.bundle.proofs.Bundles.{accept-none, accept-files, accept-heading}
 use Rattle.totals.proofs.Totals.{asked-refused, asked-told}
 use Rattle.totals.proofs.locate.Goals as goal
-use Rattle.totals.proofs.locate.Goals.{Start}
+use Rattle.totals.proofs.locate.Goals.{After-holder_fault, Else-accepted-ne0, Start}
 
 abbrev bs : Start → List ℕ
 bs s = s.args.bytes.now
 
 pub returns-then-accepted-ne0 : goal.returns-then-accepted-ne0
 returns-then-accepted-ne0 c =
+    let s = (goal.at.returns-then-accepted-ne0 c).Start in
     let r = c.accept-accepted in (
-      asked-refused (bs (goal.at.returns-then-accepted-ne0 c).Start) c.args.holder c.args.a c.args.b c.args.out r.result r.ensures c.if-accepted-ne0.true,
+      asked-refused (bs s) s.args.holder s.args.a s.args.b s.args.out r.result r.ensures c.if-accepted-ne0.true,
       λ z. absurd (c.if-accepted-ne0.true z),
     )
 
@@ -27,11 +28,14 @@ find_file-file-requires c =
 
 pub returns : goal.returns
 returns c =
-    let r = c.accept-accepted in
-    let z = c.if-accepted-ne0.false in (
+    let t = (goal.at.returns c).After-holder_fault in
+    let e = (goal.at.After-holder_fault t).Else-accepted-ne0 in
+    let s = (goal.at.Else-accepted-ne0 e).Start in
+    let r = e.accept-accepted in
+    let z = e.if-accepted-ne0.false in (
       c.first-fault.ensures
-          ∙ ap₂ first c.holder_fault.ensures
+          ∙ ap₂ first t.holder_fault.ensures
           (c.first.ensures ∙ ap₂ first c.length_fault.ensures c.run_fault.ensures)
-          ∙ asked-told (bs (goal.at.returns c).Start) c.args.holder c.args.a c.args.b c.args.out r.result r.ensures z _ c.find_file-file.ensures,
-      λ _. (accept-heading (bs (goal.at.returns c).Start) r.result r.ensures z, c.find_file-file.ensures),
+          ∙ asked-told (bs s) s.args.holder s.args.a s.args.b s.args.out r.result r.ensures z _ t.find_file-file.ensures,
+      λ _. (accept-heading (bs s) r.result r.ensures z, t.find_file-file.ensures),
     )

@@ -13,9 +13,7 @@ use Rattle.galois.specs.Element.{zero_e, difference}
 use Rattle.totals.proofs.Sums.{zip-within, zero-at}
 use Rattle.totals.proofs.Added.{zip-count, fill_here}
 use Rattle.totals.proofs.negate.Goals as goal
-
-abbrev negatives : ℕ → List ℕ → List ℕ
-negatives k ws = difference k (zero_e (length ws)) ws
+use Rattle.totals.proofs.negate.Invariants.{negatives}
 
 as_many : (ws : List ℕ) → length ws ≤ length (zero_e (length ws))
 as_many ws = le_of_eq (sym (length-replicate (length ws) 0))

@@ -14,6 +14,9 @@ use Rattle.totals.proofs.Sums.{zip-within, zero-at}
 use Rattle.totals.proofs.Added.{zip-count, fill_here}
 use Rattle.totals.proofs.negate.Given as goal
 
+abbrev pub negatives : ℕ → List ℕ → List ℕ
+negatives k ws = difference k (zero_e (length ws)) ws
+
 abbrev pub invariant-loop-j : goal.invariant-loop-j
 invariant-loop-j l = (l.j ≤ length l.initial.running) × (l.running ≡ paste l.initial.running 0 (negatives l.k l.initial.running) l.j) × (length l.running ≡ length l.initial.running)
 

@@ -5,7 +5,7 @@ use Prim.Native.Nat.{ℕ, ◌-◌, ◌≤◌}
 use Rattle.bundle.proofs.Bundles.{bundle-ok, ranges-of}
 use Rattle.totals.proofs.Runs.{run-taken}
 use Rattle.totals.proofs.take_run.Goals as goal
-use Rattle.totals.proofs.take_run.Goals.{Start}
+use Rattle.totals.proofs.take_run.Goals.{After-add_run, After-negate, Start}
 
 abbrev bs : Start → List ℕ
 bs s = s.args.bytes.now
@@ -17,8 +17,11 @@ bits s =
 
 pub returns : goal.returns
 returns c =
-    run-taken (bs (goal.at.returns c).Start) c.args.h c.requires.1 c.args.f c.args.a (c.args.b - c.args.a) c.args.running.now _ _ _ c.requires.5
-    c.negate.auto.1.0 c.add_run.auto.1.1.1.1.1.0 c.negate.ensures c.add_run.ensures.1 c.negate-2.ensures
+    let q = (goal.at.returns c).After-add_run in
+    let p = (goal.at.After-add_run q).After-negate in
+    let s = (goal.at.After-negate p).Start in
+    run-taken (bs s) s.args.h s.requires.1 s.args.f s.args.a (s.args.b - s.args.a) s.args.running.now _ _ _ s.requires.5
+    p.negate.auto.running q.add_run.auto.running p.negate.ensures q.add_run.ensures.1 c.negate-2.ensures
 
 pub negate-requires : goal.negate-requires
 negate-requires c = bits (goal.at.negate-requires c).Start

@@ -70,10 +70,11 @@ put_number-requires-3 c =
 pub returns : goal.returns
 unfolding head_len head_kind record_size
 returns c =
-    let h = c.args.h in
+    let s = (goal.at.returns c).Start in
+    let h = s.args.h in
     let p = h.params in
-    let d = c.args.out.now in
-    let g = room (goal.at.returns c).Start in
+    let d = s.args.out.now in
+    let g = room s in
     let o₁ = c.put_prefix.new.out in
     let o₂ = c.put_params.new.out in
     let o₃ = c.put_number.new.out in
@@ -93,7 +94,7 @@ returns c =
     let w₂ : Written d 0 (x ++ y) o₂ = written-more d 0 x o₁ y o₂ 6 4 w₁ (omega arith) refl (omega arith)
     c.put_params.ensures in
     let w₃ : Written d 0 ((x ++ y) ++ (h.holder ∷ [])) o₃ =
-    written_byte d 0 (x ++ y) o₂ o₃ (6 + 4) h.holder w₂ (omega arith) (omega arith) (small (goal.at.returns c).Start).holder
+    written_byte d 0 (x ++ y) o₂ o₃ (6 + 4) h.holder w₂ (omega arith) (omega arith) (small s).holder
     c.put_number.ensures in
     let w₄ : Written d 0 (((x ++ y) ++ (h.holder ∷ [])) ++ a) o₄ =
     written-number d 0 ((x ++ y) ++ (h.holder ∷ [])) o₃ o₄ (6 + 5) 8 h.archive w₃ (omega arith) (omega arith)

@@ -50,17 +50,18 @@ put_words-requires c =
 
 pub returns : goal.returns
 returns c =
-    let h = c.args.h in
-    let at = c.args.at in
-    let d = c.args.out.now in
-    let n = c.args.num in
-    let xs = take h.params.d (drop c.args.from c.args.words.now) in
-    let g = room (goal.at.returns c).Start in
+    let s = (goal.at.returns c).Start in
+    let h = s.args.h in
+    let at = s.args.at in
+    let d = s.args.out.now in
+    let n = s.args.num in
+    let xs = take h.params.d (drop s.args.from s.args.words.now) in
+    let g = room s in
     let o₁ = c.put_prefix.new.out in
     let o₂ = c.put_number.new.out in
     let o₃ = c.put_words.new.out in
     let x = le_bytes 4 (job_len h) ++ le_bytes 2 job_kind in
-    let k : length xs ≡ h.params.d = job-words h.params.d c.args.words.now c.args.from c.requires.2 in
+    let k : length xs ≡ h.params.d = job-words h.params.d s.args.words.now s.args.from s.requires.2 in
     let nx : length x ≡ 6 = prefix-length (job_len h) job_kind in
     let ny : length (x ++ le_bytes 8 n) ≡ 6 + 8 = length-append x (le_bytes 8 n) ∙ ap₂ ◌+◌ nx (length-le_bytes 8 n) in
     let nz : length (words_bytes 8 xs) ≡ 8 * h.params.d = words_length 8 xs ∙ ap (λ (m : ℕ). 8 * m) k in

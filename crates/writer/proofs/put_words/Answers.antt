@@ -12,9 +12,7 @@ use Rattle.writer.proofs.Put.{Written, written_none, written-number, written-len
 use Rattle.writer.proofs.Fits.{words_length}
 use Rattle.writer.proofs.Calls.{words_more}
 use Rattle.writer.proofs.put_words.Goals as goal
-
-abbrev S : List ℕ → ℕ → ℕ → List ℕ
-S words from d = take d (drop from words)
+use Rattle.writer.proofs.put_words.Invariants.{S}
 
 -- the words to write, and the bytes of the first i
 count : (ws : List ℕ) (from d : ℕ) → from + d ≤ length ws → length (S ws from d) ≡ d

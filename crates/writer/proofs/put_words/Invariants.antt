@@ -13,6 +13,9 @@ use Rattle.writer.proofs.Fits.{words_length}
 use Rattle.writer.proofs.Calls.{words_more}
 use Rattle.writer.proofs.put_words.Given as goal
 
+abbrev pub S : List ℕ → ℕ → ℕ → List ℕ
+S words from d = take d (drop from words)
+
 abbrev pub invariant-loop-i : goal.invariant-loop-i
 invariant-loop-i l =     (l.i ≤ l.d) × (l.here ≡ l.at + 8 * l.i) × (length l.out ≡ length l.initial.out) × Written l.initial.out l.at (words_bytes 8 (take l.i (S l.words l.from l.d))) l.out
 

@@ -52,19 +52,20 @@ returns-then-out-files c =
 
 pub returns : goal.returns
 returns c =
-    let x = c.args.e in
-    let d = out (goal.at.returns c).Start in
-    let n : length d ≡ order_size + length (fs (goal.at.returns c).Start) = c.if-out-files.false in
-    let e : bundle_write_fault x (fs (goal.at.returns c).Start) (length d) ≡ 0 =
-    by_size x (fs (goal.at.returns c).Start) (length d) (none (goal.at.returns c).Else-fault-ne0) ∙ unless-yes _ 2 (eq-eqb _ _ n) in
+    let s = (goal.at.returns c).Start in
+    let x = s.args.e in
+    let d = out s in
+    let n : length d ≡ order_size + length (fs s) = c.if-out-files.false in
+    let e : bundle_write_fault x (fs s) (length d) ≡ 0 =
+    by_size x (fs s) (length d) (none (goal.at.returns c).Else-fault-ne0) ∙ unless-yes _ 2 (eq-eqb _ _ n) in
     let m = order-length x in
     let o₁ = c.put_order.new.out in
     let o₂ = c.put_bytes.new.out in
     let w₁ : Written d 0 (order_bytes x) o₁ =
     written-more d 0 [] d (order_bytes x) o₁ 0 order_size (written_none d 0 (omega arith)) refl (sym m) (omega arith)
     c.put_order.ensures in
-    let w₂ : Written d 0 (order_bytes x ++ fs (goal.at.returns c).Start) o₂ =
-    written-more d 0 (order_bytes x) o₁ (fs (goal.at.returns c).Start) o₂ order_size (length (fs (goal.at.returns c).Start)) w₁ (omega arith) refl (omega arith)
+    let w₂ : Written d 0 (order_bytes x ++ fs s) o₂ =
+    written-more d 0 (order_bytes x) o₁ (fs s) o₂ order_size (length (fs s)) w₁ (omega arith) refl (omega arith)
     c.put_bytes.ensures in
-    let t : length (order_bytes x ++ fs (goal.at.returns c).Start) ≡ length d = length-append (order_bytes x) (fs (goal.at.returns c).Start) ∙ omega arith in
-    (sym e, written_all d (order_bytes x ++ fs (goal.at.returns c).Start) o₂ w₂ t ∙ sym (kept-none _ d _ e))
+    let t : length (order_bytes x ++ fs s) ≡ length d = length-append (order_bytes x) (fs s) ∙ omega arith in
+    (sym e, written_all d (order_bytes x ++ fs s) o₂ w₂ t ∙ sym (kept-none _ d _ e))

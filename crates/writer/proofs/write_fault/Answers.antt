@@ -28,25 +28,30 @@ others s = let h = s.args.h in first (unless (holder_ok 0 h) 4) (first (unless (
 ranges-yes : (c : Else-not-ranges_ok) → ranges_ok c.args.h ≡ true
 ranges-yes c = sym c.ranges_ok.ensures ∙ not-false _ c.if-not-ranges_ok.false
 
-told : (c : After-unless-lengths) → c.unless-lengths.result ≡ unless (sizes_ok c.args.h (length (ws (goal.at.After-unless-lengths c).Start)) c.args.size) 2
+told : (c : After-unless-lengths) → let s = (goal.at.After-unless-lengths c).Start in c.unless-lengths.result ≡ unless (sizes_ok s.args.h (length (ws s)) s.args.size) 2
 told c = c.unless-lengths.ensures ∙ ap (λ t. unless t 2) c.sizes_ok.ensures
 
-split : (c : After-unless-lengths) → write_fault c.args.h (ns (goal.at.After-unless-lengths c).Start) (ws (goal.at.After-unless-lengths c).Start) c.args.size ≡ first c.unless-lengths.result (others (goal.at.After-unless-lengths c).Start)
-split c = write-rest c.args.h (ns (goal.at.After-unless-lengths c).Start) (ws (goal.at.After-unless-lengths c).Start) c.args.size (ranges-yes (goal.at.After-unless-lengths c).Else-not-ranges_ok) ∙ ap (λ x. first x (others (goal.at.After-unless-lengths c).Start)) (sym (told c))
+split : (c : After-unless-lengths) → let s = (goal.at.After-unless-lengths c).Start in write_fault s.args.h (ns s) (ws s) s.args.size ≡ first c.unless-lengths.result (others s)
+split c =
+    let s = (goal.at.After-unless-lengths c).Start in
+    write-rest s.args.h (ns s) (ws s) s.args.size (ranges-yes (goal.at.After-unless-lengths c).Else-not-ranges_ok) ∙ ap (λ x. first x (others s)) (sym (told c))
 
 pub returns-then-not-ranges_ok : goal.returns-then-not-ranges_ok
-returns-then-not-ranges_ok c = sym (write-1 c.args.h (ns (goal.at.returns-then-not-ranges_ok c).Start) (ws (goal.at.returns-then-not-ranges_ok c).Start) c.args.size (sym c.ranges_ok.ensures ∙ not-true _ c.if-not-ranges_ok.true))
+returns-then-not-ranges_ok c =
+    let s = (goal.at.returns-then-not-ranges_ok c).Start in
+    sym (write-1 s.args.h (ns s) (ws s) s.args.size (sym c.ranges_ok.ensures ∙ not-true _ c.if-not-ranges_ok.true))
 
 pub sizes_ok-requires : goal.sizes_ok-requires
 sizes_ok-requires c = ranges-yes c
 
 pub returns-then-lengths-ne0 : goal.returns-then-lengths-ne0
-returns-then-lengths-ne0 c = sym (split (goal.at.returns-then-lengths-ne0 c).After-unless-lengths ∙ first_some c.unless-lengths.result (others (goal.at.returns-then-lengths-ne0 c).Start) c.if-lengths-ne0.true)
+returns-then-lengths-ne0 c = let u = (goal.at.returns-then-lengths-ne0 c).After-unless-lengths in sym (split u ∙ first_some u.unless-lengths.result (others (goal.at.After-unless-lengths u).Start) c.if-lengths-ne0.true)
 
 pub returns : goal.returns
 returns c =
+    let u = (goal.at.returns c).After-unless-lengths in
     c.first.ensures
     ∙ ap₂ first (c.unless-holder.ensures ∙ ap (λ t. unless t 4) c.holder_ok.ensures)
     (c.first-jobs.ensures
     ∙ ap₂ first (c.unless-order.ensures ∙ ap (λ t. unless t 7) c.strictly_rising.ensures) c.width_fault.ensures)
-    ∙ sym (split (goal.at.returns c).After-unless-lengths ∙ first-none c.unless-lengths.result (others (goal.at.returns c).Start) c.if-lengths-ne0.false)
+    ∙ sym (split u ∙ first-none u.unless-lengths.result (others (goal.at.After-unless-lengths u).Start) c.if-lengths-ne0.false)

@@ -82,7 +82,7 @@ put_jobs-requires c =
     let r = ok-ranges (h (goal.at.put_jobs-requires c).Start)
     (good (goal.at.put_jobs-requires c).Else-fault-ne0).ranges in (
       r.book.d-high,
-      omega (arith, room c, c.put_heading.auto.0),
+      omega (arith, room c, c.put_heading.auto.out),
       source
           (goal.at.put_jobs-requires c).Else-fault-ne0,
     )
@@ -90,10 +90,11 @@ put_jobs-requires c =
 pub returns : goal.returns
 unfolding file_bytes file_for heading_for
 returns c =
-    let d = out (goal.at.returns c).Start in
-    let x = h (goal.at.returns c).Start in
-    let js = jobs_of c.args.p.d (ns (goal.at.returns c).Start) (ws (goal.at.returns c).Start) in
-    let e : write_fault x (ns (goal.at.returns c).Start) (ws (goal.at.returns c).Start) (length d) ≡ 0 = sym (fault-is
+    let s = (goal.at.returns c).Start in
+    let d = out s in
+    let x = h s in
+    let js = jobs_of s.args.p.d (ns s) (ws s) in
+    let e : write_fault x (ns s) (ws s) (length d) ≡ 0 = sym (fault-is
     (goal.at.returns c).After-write_fault-fault) ∙
     c.if-fault-ne0.false in
     let hs = c.head_size.result in
@@ -101,14 +102,14 @@ returns c =
     let o₂ = c.put_jobs.new.out in
     let r = room (goal.at.returns c).After-head_size in
     let n : length (heading_bytes x) ≡ head_size x = heading-length x in
-    let m : length (jobs_bytes x js) ≡ length (ns (goal.at.returns c).Start) * job_size x = jobs-bytes x (ns (goal.at.returns c).Start) (ws (goal.at.returns c).Start)
+    let m : length (jobs_bytes x js) ≡ length (ns s) * job_size x = jobs-bytes x (ns s) (ws s)
     (source (goal.at.returns c).Else-fault-ne0) in
     let k : hs ≡ head_size x = head-is (goal.at.returns c).After-head_size in
     let w₁ : Written d 0 (heading_bytes x) o₁ =
     written-more d 0 [] d (heading_bytes x) o₁ 0 (head_size x) (written_none d 0 (omega arith)) refl (sym n) (omega arith)
     c.put_heading.ensures in
     let w₂ : Written d 0 (heading_bytes x ++ jobs_bytes x js) o₂ =
-    written-more d 0 (heading_bytes x) o₁ (jobs_bytes x js) o₂ hs (length (ns (goal.at.returns c).Start) * job_size x) w₁ (omega arith) (sym m) (omega arith)
+    written-more d 0 (heading_bytes x) o₁ (jobs_bytes x js) o₂ hs (length (ns s) * job_size x) w₁ (omega arith) (sym m) (omega arith)
     c.put_jobs.ensures in
     let t : length (heading_bytes x ++ jobs_bytes x js) ≡ length d = length-append (heading_bytes x) (jobs_bytes x js) ∙ omega arith in
     (sym e, written_all d (heading_bytes x ++ jobs_bytes x js) o₂ w₂ t ∙ sym (kept-none _ d _ e))

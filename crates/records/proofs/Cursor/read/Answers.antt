@@ -52,11 +52,15 @@ returns-then-bytes-at-lt-PREFIX_SIZE c =
     told a.bytes.now a.self.at _ (sym (read_short a.bytes.now a.self.at c.if-at-bytes.false (omega arith)))
 
 pub returns-then-not-known_length : goal.returns-then-not-known_length
-returns-then-not-known_length c = told (bs (goal.at.returns-then-not-known_length c).After-known_length) (at (goal.at.returns-then-not-known_length c).After-known_length) _ (sym (read-unknown (bs (goal.at.returns-then-not-known_length c).After-known_length) (at (goal.at.returns-then-not-known_length c).After-known_length) (differs (goal.at.returns-then-not-known_length c).After-known_length) (sym (known_is (goal.at.returns-then-not-known_length c).After-known_length) ∙ not-true _ c.if-not-known_length.true)))
+returns-then-not-known_length c =
+    let o = (goal.at.returns-then-not-known_length c).After-known_length in
+    told (bs o) (at o) _ (sym (read-unknown (bs o) (at o) (differs o) (sym (known_is o) ∙ not-true _ c.if-not-known_length.true)))
 
 pub returns-then-bytes-at-2 : goal.returns-then-bytes-at-2
 unfolding record_size
-returns-then-bytes-at-2 c = told (bs (goal.at.returns-then-bytes-at-2 c).After-known_length) (at (goal.at.returns-then-bytes-at-2 c).After-known_length) _ (sym (read-cut (bs (goal.at.returns-then-bytes-at-2 c).After-known_length) (at (goal.at.returns-then-bytes-at-2 c).After-known_length) (differs (goal.at.returns-then-bytes-at-2 c).After-known_length) (omega (arith, len_is (goal.at.returns-then-bytes-at-2 c).After-known_length))))
+returns-then-bytes-at-2 c =
+    let o = (goal.at.returns-then-bytes-at-2 c).After-known_length in
+    told (bs o) (at o) _ (sym (read-cut (bs o) (at o) (differs o) (omega (arith, len_is o))))
 
 is_known : (c : Else-bytes-at-2) → known (kind_at (bs (goal.at.Else-bytes-at-2 c).After-known_length) (at (goal.at.Else-bytes-at-2 c).After-known_length))
     (len_at (bs (goal.at.Else-bytes-at-2 c).After-known_length) (at (goal.at.Else-bytes-at-2 c).After-known_length)) ≡ true
@@ -71,6 +75,7 @@ overflow_sub-result c = omega (arith, len_is (goal.at.overflow_sub-result c).Aft
 pub returns : goal.returns
 unfolding record_size body_size
 returns c =
-    told (bs (goal.at.returns c).After-known_length) (at (goal.at.returns c).After-known_length) _
-    (ap₂ (λ (k l : ℕ). Record k (body_at (at (goal.at.returns c).After-known_length)) (body_size l) (record { at = at (goal.at.returns c).After-known_length + record_size l })) (kind_is (goal.at.returns c).After-known_length) (len_is (goal.at.returns c).After-known_length)
-    ∙ sym (read-record (bs (goal.at.returns c).After-known_length) (at (goal.at.returns c).After-known_length) (differs (goal.at.returns c).After-known_length) (is_known c) (omega (arith, len_is (goal.at.returns c).After-known_length))))
+    let o = (goal.at.returns c).After-known_length in
+    told (bs o) (at o) _
+    (ap₂ (λ (k l : ℕ). Record k (body_at (at o)) (body_size l) (record { at = at o + record_size l })) (kind_is o) (len_is o)
+    ∙ sym (read-record (bs o) (at o) (differs o) (is_known c) (omega (arith, len_is o))))
