@@ -49,6 +49,7 @@ candidate k d t e ss c i only = go (dec_le (errors k d c ss) e)
 
 -- what holds of each holds of a member
 pub member : {S : Type 0} (P : S → Type 0) (ss : List S) → All P ss → (s : S) → Memᴰ s ss → P s
+member P [] a s x = elim x [ ]
 member P (r ∷ ss) a s (Memᴰ.head e) = subst P (sym e) a.0
 member P (r ∷ ss) a s (Memᴰ.tail m) = member P ss a.1 s m
 

@@ -12,10 +12,10 @@ use Rattle.totals.proofs.Values.{filled, values-start, values-next, values-done}
 use Rattle.archive.proofs.load_holders.Goals as goal
 use Rattle.archive.proofs.load_holders.Goals.{Start}
 
-few : (s : Start → s.args.files ≤ 63
+few : (s : Start) → s.args.files ≤ 63
 few s = omega (arith, s.requires.2, files-most s.args.bytes.now (bundle-ok s.args.bytes.now s.requires.0))
 
-room : (s : Start → s.args.files ≤ length {A = ℕ} (replicate 63 0)
+room : (s : Start) → s.args.files ≤ length {A = ℕ} (replicate 63 0)
 room s = rw (length-replicate {A = ℕ} 63 0) (few s)
 
 pub loop-f-init : goal.loop-f-init

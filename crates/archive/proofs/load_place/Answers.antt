@@ -18,7 +18,7 @@ use Rattle.totals.proofs.Words.{words_length, padded, padded-width, none_seen, m
 use Rattle.archive.proofs.load_place.Goals as goal
 use Rattle.archive.proofs.load_place.Goals.{After-job_words-w, At-loop-f, Start}
 
-few : (s : Start → s.args.files ≤ 63
+few : (s : Start) → s.args.files ≤ 63
 few s = omega (arith, s.requires.2, files-most s.args.bytes.now (bundle-ok s.args.bytes.now s.requires.0))
 
 -- the test of one file, and its row
@@ -34,7 +34,7 @@ loop-f-init c =
     (omega arith, s.requires.4, none_seen s.args.h.params.k (test s), values-start (row s) s.args.files s.args.shares.now)
 
 -- the row that it writes is there
-here : (c : After-job_words-w → c.before.before.loop.f < 63
+here : (c : After-job_words-w) → c.before.before.loop.f < 63
 here c = omega (arith, few (goal.at.After-job_words-w c).Start, c.loop-f-test.true)
 
 pub offset_bounds-shares-f : goal.offset_bounds-shares-f

@@ -19,7 +19,7 @@ use Rattle.totals.proofs.Runs.{run-held}
 use Rattle.archive.proofs.load_run.Goals as goal
 use Rattle.archive.proofs.load_run.Goals.{At-loop-f, In-loop-f, Start}
 
-few : (s : Start → s.args.files ≤ 63
+few : (s : Start) → s.args.files ≤ 63
 few s = omega (arith, s.requires.2, files-most s.args.bytes.now (bundle-ok s.args.bytes.now s.requires.0))
 
 -- the test of one file, and its row
@@ -35,7 +35,7 @@ loop-f-init c =
     (omega arith, s.requires.5, none_seen s.args.h.params.k (run s), values-start (row s) s.args.files s.args.shares.now)
 
 -- the row that is lent is there, and of zeros
-here : (c : In-loop-f → c.before.loop.f < 63
+here : (c : In-loop-f) → c.before.loop.f < 63
 here c = omega (arith, few (goal.at.In-loop-f c).Start, c.loop-f-test.true)
 
 pub offset_bounds-shares-f : goal.offset_bounds-shares-f
@@ -50,10 +50,10 @@ offset_bounds-shares-f-in-loop-f c = omega (arith, here c)
 pub bounds-shares-f-in-loop-f : goal.bounds-shares-f-in-loop-f
 bounds-shares-f-in-loop-f c = here c
 
-zeros : (c : In-loop-f → let l = c.before.loop in get_or (set l.shares l.f (zero_e 6)) l.f [] ≡ zero_e 6
+zeros : (c : In-loop-f) → let l = c.before.loop in get_or (set l.shares l.f (zero_e 6)) l.f [] ≡ zero_e 6
 zeros c = let l = c.loop-f in get_or-set_same l.shares l.f (zero_e 6) [] (omega (arith, l.invariant.1, here c))
 
-book : (s : Start → s.args.h.params.d ≤ 6
+book : (s : Start) → s.args.h.params.d ≤ 6
 book s = let bs = s.args.bytes.now in (ranges-of bs (bundle-ok bs s.requires.0) s.args.h s.requires.1).book.d-high
 
 pub add_run-seen-requires : goal.add_run-seen-requires

@@ -66,11 +66,11 @@ returns-then-fault-ne0 c =
           e₀ ∙ sym (one-stop (bs s) l.at l.prev (rw (z, g) at j) (λ y. c.if-fault-ne0.true (e₀ ∙ y))),
     )
 
-no_fault : (c : Else-fault-ne0 → let l = c.before.before.before.before.loop in
+no_fault : (c : Else-fault-ne0) → let l = c.before.before.before.before.loop in
     file_fault_at (bs (S c)) (S c).args.start l.prev l.at ≡ 0
 no_fault c = sym c.file_fault-fault.ensures ∙ c.if-fault-ne0.false
 
-file : (c : Else-fault-ne0 → let l = c.before.before.before.before.loop in FileOk (bs (S c)) (S c).args.start l.prev l.at
+file : (c : Else-fault-ne0) → let l = c.before.before.before.before.loop in FileOk (bs (S c)) (S c).args.start l.prev l.at
 file c = let l = c.loop-at in file-ok (bs (goal.at.Else-fault-ne0 c).Start) c.args.start l.prev l.at (no_fault c)
 
 pub heading_at-h-requires : goal.heading_at-h-requires
@@ -81,15 +81,15 @@ file_size-at-requires c =
     let r = ok-ranges _ (file (goal.at.file_size-at-requires c).Else-fault-ne0).heading.ranges in
     rw c.heading_at-h.ensures (r.book.d-high, r.jobs_high)
 
-size_is : (c : After-file_size-at → let e = c.before.before in
+size_is : (c : After-file_size-at) → let e = c.before.before in
     c.file-size.result ≡ file_size (heading_of (bs (S e)) e.before.before.before.before.loop.at)
 size_is c = c.file_size-at.ensures ∙ ap file_size c.heading_at-h.ensures
 
-size_fits : (c : After-file_size-at → let e = c.before.before in
+size_fits : (c : After-file_size-at) → let e = c.before.before in
     e.before.before.before.before.loop.at + c.file-size.result ≤ length (bs (S e))
 size_fits c = rw (size_is c) (file (goal.at.After-file_size-at c).Else-fault-ne0).within
 
-size_low : (c : After-file_size-at → 7 ≤ c.file-size.result
+size_low : (c : After-file_size-at) → 7 ≤ c.file-size.result
 size_low c =
     let e = (goal.at.After-file_size-at c).Else-fault-ne0 in
     let h = heading_of (bs (goal.at.Else-fault-ne0 e).Start) e.loop-at.at in

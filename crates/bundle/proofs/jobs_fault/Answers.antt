@@ -29,13 +29,13 @@ returns-then-fault-ne0 c =
     e ∙ jobs-stop a.bytes.now a.len a.base a.at l.p l.first l.here l.prev l.invariant.1 a.count
     (λ z. c.if-fault-ne0.true (e ∙ z)) c.loop-p-test.true
 
-no_fault : (c : Else-fault-ne0 →
+no_fault : (c : Else-fault-ne0) →
     job_fault_at c.before.before.before.before.before.args.bytes.now c.before.before.before.before.before.args.len
     c.before.before.before.loop.first c.before.before.before.loop.prev c.before.before.before.loop.p
     c.before.before.before.loop.here ≡ 0
 no_fault c = sym c.job_fault-fault.ensures ∙ c.if-fault-ne0.false
 
-fits : (c : Else-fault-ne0 → c.before.before.before.loop.here + (4 + c.before.before.before.before.before.args.len) ≤ length
+fits : (c : Else-fault-ne0) → c.before.before.before.loop.here + (4 + c.before.before.before.before.before.args.len) ≤ length
     c.before.before.before.before.before.args.bytes.now
 unfolding record_size
 fits c =
@@ -43,7 +43,7 @@ fits c =
     (job-ok c.args.bytes.now c.args.len l.first
     l.prev l.p l.here (no_fault c)).frame.within
 
-low : (c : Else-fault-ne0 → c.before.before.before.loop.first ≤ c.before.before.before.loop.here
+low : (c : Else-fault-ne0) → c.before.before.before.loop.first ≤ c.before.before.before.loop.here
 low c =
     let j = c.loop-p.invariant.1 in
     omega (arith, j.first-is, j.at-is, c.requires)
@@ -85,7 +85,7 @@ overflow_add-p c = omega (arith, c.loop-p-test.true, c.ranges.count)
 pub loop-p-smaller : goal.loop-p-smaller
 loop-p-smaller c = omega (arith, c.loop-p-test.true)
 
-num-is : (c : After-word_at-prev → c.word_at.result ≡ num_of c.before.before.before.before.before.before.args.bytes.now
+num-is : (c : After-word_at-prev) → c.word_at.result ≡ num_of c.before.before.before.before.before.before.args.bytes.now
     c.before.before.before.before.loop.here
 unfolding num_of
 num-is c = c.word_at-prev.ensures

@@ -17,7 +17,7 @@ loop-i-init c =
     (omega arith, omega arith, c.requires.3, c.requires.4, λ d. copy_start d a.w a.hs.now a.ys.now a.m a.holders.now a.shares.now)
 
 -- a holder's bit is one of a word's
-range : (l : At-loop-i → l.loop.i < l.before.args.m →
+range : (l : At-loop-i) → l.loop.i < l.before.args.m →
     (1 ≤ get_or l.before.args.hs.now l.loop.i 0) × (get_or l.before.args.hs.now l.loop.i 0 ≤ 63)
 range l h = l.requires.5 l.loop-i.i h
 

@@ -17,7 +17,7 @@ loop-i-init c =
     (omega arith, omega arith, c.requires.1, c.requires.2, λ d. refl, λ d. drop-start d a.w a.hs.now a.ys.now a.m)
 
 -- a holder's bit is one of a word's
-range : (l : At-loop-i → l.loop.i < l.before.args.m →
+range : (l : At-loop-i) → l.loop.i < l.before.args.m →
     (1 ≤ get_or l.loop.hs l.loop.i 0) × (get_or l.loop.hs l.loop.i 0 ≤ 63)
 range l h =
     let a = l.args in

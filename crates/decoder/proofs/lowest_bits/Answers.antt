@@ -22,10 +22,10 @@ poly s = let a = s.args in coefs a.p.d (suc a.p.t) a.rows.now
 abbrev shares : Start → List Share
 shares s = let a = s.args in shares_of a.p.d a.m a.holders.now a.shares.now
 
-range : (s : Start → InRange s.args.p
+range : (s : Start) → InRange s.args.p
 range s = ok-range s.args.p s.requires.0
 
-holders : (s : Start → Holders s.args.p.d (shares s)
+holders : (s : Start) → Holders s.args.p.d (shares s)
 holders s = ordered-holders s.args.p (range s) (shares s) s.requires.2
 
 -- at the head of the loop

@@ -110,7 +110,7 @@ returns-then-all c =
     (r.0, (r.1, ((given n).round.ensures.1.1, (v.1, v.2))))
 
 -- some of them only
-jumped : (c : Else-all →
+jumped : (c : Else-all) →
     (let n = c.before in
     let l = head (given n) in
     let a = l.before.args in

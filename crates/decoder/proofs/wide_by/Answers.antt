@@ -23,7 +23,7 @@ pub loop-i-init : goal.loop-i-init
 loop-i-init c = let a = c.args in (omega arith, set-start a.d c.requires.0 (wide a.k) a.m a.hs.now a.ys.now c.requires.2)
 
 -- the row that is looked at, by its words together
-row-width : (l : At-loop-i → 0 < l.loop.i →
+row-width : (l : At-loop-i) → 0 < l.loop.i →
     (let a = l.before.args in let y = get_or a.ys.now (l.loop.i - 1) [] in
     in_width a.k (six_bits (held a.d y)) ≡ all_in_width a.k (take a.d y))
 row-width l h =

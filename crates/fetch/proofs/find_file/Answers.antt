@@ -15,7 +15,7 @@ use Rattle.fetch.proofs.find_file.Goals.{After-file_size-size, In-loop-f, Start}
 abbrev bs : Start → List ℕ
 bs s = s.args.bytes.now
 
-whole : (s : Start → BundleOk (bs s)
+whole : (s : Start) → BundleOk (bs s)
 whole s = bundle-ok (bs s) s.requires.0
 
 pub heading_at-requires : goal.heading_at-requires
@@ -26,17 +26,17 @@ file_size-size-requires c =
     let r = bundle-ranges (bs (goal.at.file_size-size-requires c).Start) (whole (goal.at.file_size-size-requires c).Start) in
     rw c.heading_at.ensures (r.book.d-high, r.jobs_high)
 
-size_is : (c : After-file_size-size → c.file-size.result ≡ file_size (bundle_heading (bs c.before.before.before))
+size_is : (c : After-file_size-size) → c.file-size.result ≡ file_size (bundle_heading (bs c.before.before.before))
 size_is c = c.file_size-size.ensures ∙ ap file_size c.heading_at.ensures
 
 pub loop-f-init : goal.loop-f-init
 loop-f-init c = find-start (bs (goal.at.loop-f-init c).Start) c.args.holder
 
 -- there is a file f, within the bytes
-low : (c : In-loop-f → c.before.loop.f < files_of (bs c.before.before.before.before.before)
+low : (c : In-loop-f) → c.before.loop.f < files_of (bs c.before.before.before.before.before)
 low c = omega (arith, c.loop-f-test.true, c.requires.1)
 
-within : (c : In-loop-f → c.before.loop.at + file_size (bundle_heading (bs c.before.before.before.before.before)) ≤
+within : (c : In-loop-f) → c.before.loop.at + file_size (bundle_heading (bs c.before.before.before.before.before)) ≤
     length (bs c.before.before.before.before.before)
 within c =
     omega (

@@ -63,4 +63,4 @@ returns c =
     let e : l.loop-i.i ≡ 0 = omega arith in
     let q : reduce 64 (take d l.loop-i.r) ≡ v = rw e at l.loop-i.invariant.2 in
     eval-end 64 d (omega arith) (omega arith) l.args.len p (omega arith) (point d l.args.x) c.keep.result l.loop-i.r v
-    c.keep.ensures (word_good c.keep.result _ c.keep.type-inv) l.loop-i.invariant.1 q
+    c.keep.ensures (word_good c.keep.result _ c.keep.type_inv) l.loop-i.invariant.1 q

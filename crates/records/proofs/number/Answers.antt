@@ -12,7 +12,7 @@ use Rattle.records.proofs.wide.Reads as wide-reads
 use Rattle.records.proofs.number.Goals as goal
 use Rattle.records.proofs.number.Goals.{After-wide-b}
 
-small : (c : After-wide-b → c.before.before.before.loop.x < 256 ^ 7
+small : (c : After-wide-b) → c.before.before.before.loop.x < 256 ^ 7
 small c =
     let a = c.args in
     let i = c.loop-i.i in

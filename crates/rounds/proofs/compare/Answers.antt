@@ -28,13 +28,13 @@ most = omega arith
 abbrev row : At-loop-i → Element
 row l = get_or l.args.rest.now (l.loop-i.i - 1) []
 
-six : (l : At-loop-i → 0 < l.loop.i → length (row l) ≡ 6
+six : (l : At-loop-i) → 0 < l.loop.i → length (row l) ≡ 6
 six l h = shaped_row l.args.rest.now (l.loop-i.i - 1) l.requires.3 (omega (arith, l.loop-i.invariant.1, l.requires.1))
 
-whole : (l : At-loop-i → 0 < l.loop.i → take 6 (row l) ≡ row l
+whole : (l : At-loop-i) → 0 < l.loop.i → take 6 (row l) ≡ row l
 whole l h = take_all 6 (row l) (le_of_eq (six l h))
 
-bits_at : (l : At-loop-i → 0 < l.loop.i → gap (row l) (replicate 6 0) ≡ bits_of (take 6 (row l))
+bits_at : (l : At-loop-i) → 0 < l.loop.i → gap (row l) (replicate 6 0) ≡ bits_of (take 6 (row l))
 bits_at l h = ap (λ n. gap (row l) (replicate n 0)) (sym (six l h)) ∙ bits-gap (row l) ∙ ap bits_of (sym (whole l h))
 
 pub loop-i-init : goal.loop-i-init

@@ -23,7 +23,7 @@ use Rattle.sharing.proofs.write_shares.Goals.{After-share_at-e, At-loop-at, In-l
 abbrev Q : Start → Polynomial
 Q s = s.args.secret.now ∷ elements_of s.args.p.d s.args.p.t s.args.coefficients.now
 
-rows : (s : Start → Rows s.args.p.d (Q s)
+rows : (s : Start) → Rows s.args.p.d (Q s)
 rows s = (s.requires.3, elements-rows s.args.p.d s.args.p.t s.args.coefficients.now (omega (arith, s.requires.4)))
 
 abbrev S : Start → List ℕ
@@ -35,7 +35,7 @@ loop-at-init c =
     (omega arith, omega arith, sym (zero-mul s.args.p.d), paste-zero s.args.out.now 0 (S s), refl)
 
 -- in the loop the holder is one of the n
-holder : (c : In-loop-at → let l = c.before in l.loop.x - 1 < l.before.before.before.before.args.p.n
+holder : (c : In-loop-at) → let l = c.before in l.loop.x - 1 < l.before.before.before.before.args.p.n
 holder c =
     let l = (goal.at.In-loop-at c).At-loop-at in
     lt_of_mul-lt-mul_right l.args.p.d (omega (arith, c.loop-at-test.true, l.loop-at.invariant.2, l.loop-at.invariant.4, l.requires.5))

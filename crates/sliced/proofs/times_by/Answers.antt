@@ -17,10 +17,10 @@ pub loop-i-preserved : goal.loop-i-preserved
 loop-i-preserved c =
     let l = (goal.at.loop-i-preserved c).At-loop-i in
     let a = l.args in
-    let ha : length a.t3 ≡ 6 = omega (arith, l.well_formed) in (
+    let ha : length a.a ≡ 6 = omega (arith, l.well_formed) in (
       omega arith,
       rw (c.add_scaled-r.ensures, c.shift-s.ensures, l.requires.1, l.loop-i.invariant.1)
-          (horner-turn a.d a.t3 a.b l.loop-i.i (omega arith) (omega arith) (omega arith)),
+          (horner-turn a.d a.a a.b l.loop-i.i (omega arith) (omega arith) (omega arith)),
     )
 
 pub returns : goal.returns

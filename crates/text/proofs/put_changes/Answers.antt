@@ -24,18 +24,18 @@ holder c = c.loop-w.i + count_trailing_zeros 64 c.loop-w.w + 1
 abbrev others : In-loop-w → ℕ
 others c = c.loop-w.w / 2 ^ count_trailing_zeros 64 c.loop-w.w / 2
 
-holder-room : (c : In-loop-w → holder c ≤ 64
+holder-room : (c : In-loop-w) → holder c ≤ 64
 holder-room c =
     let l = c.loop-w in
     next-room l.i l.w l.invariant.0 (pos_of_ne-zero c.loop-w-test.true) l.invariant.1
 
-others-lt : (c : In-loop-w → others c < 2 ^ (64 - holder c)
+others-lt : (c : In-loop-w) → others c < 2 ^ (64 - holder c)
 others-lt c =
     let l = c.loop-w in
     next-lt l.i l.w l.invariant.0 (pos_of_ne-zero c.loop-w-test.true) l.invariant.1
 
 -- its line comes next
-text : (c : In-loop-w
+text : (c : In-loop-w)
     → let n = (S c).args.number in
     rest_lines n c.before.loop.i c.before.loop.w ≡ changed_line n (holder c) ++ rest_lines n (holder c) (others c)
 text c =
@@ -43,7 +43,7 @@ text c =
     changes-next c.args.number l.i l.w l.invariant.0 (pos_of_ne-zero c.loop-w-test.true) l.invariant.1
 
 -- and there is room for it
-room : (c : In-loop-w
+room : (c : In-loop-w)
     → c.before.loop.p + length (changed_line (S c).args.number (holder c)) ≤ length c.before.loop.out
 room c =
     let n = c.args.number in

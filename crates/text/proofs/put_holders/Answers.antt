@@ -27,10 +27,10 @@ holder l = l.loop-w.i + count_trailing_zeros 64 l.loop-w.w + 1
 abbrev others : At-loop-w → ℕ
 others l = l.loop-w.w / 2 ^ count_trailing_zeros 64 l.loop-w.w / 2
 
-holder-room : (l : At-loop-w → holder l ≤ 64
+holder-room : (l : At-loop-w) → holder l ≤ 64
 holder-room l = next-room l.loop-w.i l.loop-w.w l.loop-w.invariant.0 l.loop-w.invariant.1.0 l.loop-w.invariant.1.1
 
-others-lt : (l : At-loop-w → others l < 2 ^ (64 - holder l)
+others-lt : (l : At-loop-w) → others l < 2 ^ (64 - holder l)
 others-lt l = next-lt l.loop-w.i l.loop-w.w l.loop-w.invariant.0 l.loop-w.invariant.1.0 l.loop-w.invariant.1.1
 
 -- its text, and what comes after it
@@ -40,17 +40,17 @@ here l = holder_text (lowest l) (holder l)
 abbrev after : At-loop-w → List ℕ
 after l = after_text (lowest l) (holder l) (others l)
 
-text : (l : At-loop-w → rest_text (lowest l) l.loop.i l.loop.w ≡ here l ++ after l
+text : (l : At-loop-w) → rest_text (lowest l) l.loop.i l.loop.w ≡ here l ++ after l
 text l = holders-next (lowest l) l.loop-w.i l.loop-w.w l.loop-w.invariant.0 l.loop-w.invariant.1.0 l.loop-w.invariant.1.1
 
 -- there is room for both
-room : (l : At-loop-w → l.loop.p + (length (here l) + length (after l)) ≤ length l.loop.out
+room : (l : At-loop-w) → l.loop.p + (length (here l) + length (after l)) ≤ length l.loop.out
 room l =
     let e = ap length (text l) ∙ length-append (here l) (after l) in
     omega (arith, e, l.loop-w.invariant.2, l.loop-w.invariant.3.place, l.requires.1)
 
 -- what is left to write once it is written
-written_one : (c : After-put_holder-p
+written_one : (c : After-put_holder-p)
     → let l = c.before.before in
     let s = l.before.before.before.before in
     Left s.args.out.now s.args.at (holders_text (lowest l) s.args.set) c.put-holder.new.0 c.put-holder.result (after l)

@@ -22,16 +22,16 @@ use Rattle.text.proofs.put_words.Goals.{After-put_signed-end, After-read_signed,
 abbrev texts : Start → List (List ℕ)
 texts s = word_texts s.args.k s.args.d s.args.words
 
-texts-length : (s : Start → length (texts s) ≡ s.args.d
+texts-length : (s : Start) → length (texts s) ≡ s.args.d
 texts-length s =
     let h : length s.args.words ≡ 6 = omega (arith, s.well_formed) in
     word-texts-length s.args.k s.args.d s.args.words (omega (arith, s.requires))
 
 -- the text of this turn, and of the words after it
-abbrev rest : (l : At-loop-i → List (List ℕ)
+abbrev rest : (l : At-loop-i) → List (List ℕ)
 rest l = drop (suc l.loop-i.i) (texts (goal.at.At-loop-i l).Start)
 
-text : (c : After-read_signed
+text : (c : After-read_signed)
     → let l = c.before.before in
     joined (drop l.loop.i (texts l.before.before)) ≡ signed_text c.read-signed.result ++ after_commas (rest l)
 text c =
@@ -43,7 +43,7 @@ text c =
     rw e (joined_at (texts s) l.loop-i.i (omega (arith, texts-length s, l.loop-i.invariant.0)))
 
 -- there is room for it, and for those after it
-room : (c : After-read_signed
+room : (c : After-read_signed)
     → let l = c.before.before in
     l.loop.end + (length (signed_text c.read-signed.result) + length (after_commas (rest l))) ≤ length l.loop.out
 room c =
@@ -52,7 +52,7 @@ room c =
     omega (arith, e, l.loop-i.invariant.1, l.loop-i.invariant.2.place, l.requires)
 
 -- what is left to write once it is written
-written_one : (c : After-put_signed-end
+written_one : (c : After-put_signed-end)
     → let l = c.before.before.before in
     let s = l.before.before in
     Left s.args.out.now s.args.at (joined (texts s)) c.put-signed.new.0 c.put-signed.result (after_commas (rest l))
@@ -67,7 +67,7 @@ written_one c =
     c.put_signed-end.ensures
 
 -- a comma comes where words are left
-more : (c : Else-i-d
+more : (c : Else-i-d)
     → let l = c.before.before.before.before.before.before in
     after_commas (rest l) ≡ (44 ∷ []) ++ joined (rest l)
 more c =

@@ -21,11 +21,11 @@ use Rattle.totals.proofs.add_jobs.Goals.{Start}
 abbrev jobs : Start → ℕ → Element
 jobs s = let a = s.args in job_words a.bytes.now a.d a.at a.size
 
-long : (s : Start (i : ℕ) → length (jobs s i) ≡ s.args.d
+long : (s : Start) (i : ℕ) → length (jobs s i) ≡ s.args.d
 long s i = let a = s.args in words_count 8 a.bytes.now a.d (a.at + i * a.size)
 
 -- a job that is read is followed by another, or by the end
-next : (s : Start (p : ℕ) → p < s.args.count → p * s.args.size + s.args.size ≤ s.args.count * s.args.size
+next : (s : Start) (p : ℕ) → p < s.args.count → p * s.args.size + s.args.size ≤ s.args.count * s.args.size
 next s p h = omega (arith, mul-le-mul_right s.args.size h)
 
 pub loop-p-init : goal.loop-p-init

@@ -18,7 +18,7 @@ use Rattle.totals.proofs.cut_words.Goals.{Start}
 abbrev cut : Start → List ℕ
 cut s = let a = s.args in reduce a.k (take a.d a.running.now)
 
-count : (s : Start → length (cut s) ≡ s.args.d
+count : (s : Start) → length (cut s) ≡ s.args.d
 count s = let a = s.args in length-reduce a.k (take a.d a.running.now) ∙ length-take-le a.d a.running.now s.requires.1
 
 pub loop-j-preserved : goal.loop-j-preserved

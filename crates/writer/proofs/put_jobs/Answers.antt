@@ -26,7 +26,7 @@ start out₀ at h ns ws l = record { low = omega arith; same = refl; size = omeg
 pub job_length-size-requires : goal.job_length-size-requires
 job_length-size-requires c = c.requires.0
 
-size_is : (c : After-job_length-size → 4 + c.job-length.result ≡ job_size c.before.before.before.before.args.h
+size_is : (c : After-job_length-size) → 4 + c.job-length.result ≡ job_size c.before.before.before.before.args.h
 unfolding record_size
 size_is c = ap (λ (n : ℕ). 4 + n) c.job_length-size.ensures
 
@@ -39,7 +39,7 @@ loop-p-init c =
     start a.out.now a.at a.h a.numbers.now a.words.now (omega (arith, c.requires))
 
 -- the job and its words are within the lists
-ahead : (c : After-put_job-arg-1 → let a = c.before.before.before.before.before.before.before.args in
+ahead : (c : After-put_job-arg-1) → let a = c.before.before.before.before.before.before.before.args in
     let p = c.before.before.loop.p in
     (a.at + p * (4 + c.before.before.before.job-length.result) + job_size a.h ≤ length a.out.now) ×
     (p * a.h.params.d + a.h.params.d ≤ length a.words.now)
