@@ -53,7 +53,7 @@ decode_files-requires c =
       s.requires.4,
       loaded-sized (bs s) h s.requires.1 s.args.files s.requires.2 (words s) (long s) (rows l) (rest s) r.ensures.1,
       λ x. loaded-width (bs s) h s.requires.1 s.args.files s.requires.2 (words s) (long s) (rows l) (rest s) r.ensures.1
-          (λ f. place-width (bs s) s.args.place f (sym r.ensures.0 ∙ sym c.in_width.ensures ∙ x)),
+          (λ f. place-width (bs s) s.args.place f (sym r.ensures.0 ∙ sym c.in_width-narrow.ensures ∙ x)),
       loaded-length (bs s) h s.requires.1 s.args.files s.requires.2 _ (rows l) s.args.shares.now s.requires.0 s.requires.5 r.ensures.1,
       s.requires.6,
     )

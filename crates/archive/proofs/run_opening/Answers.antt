@@ -77,5 +77,5 @@ returns c =
     let same = loaded (bs s) h s.requires.1 s.args.files s.requires.2 (words s) (long s) (rows l) (rest s) l.load-run.ensures.1 in
     let o = ap (answer_to (params_of (bs s)) (allowance_of (bs s))) same
     ∙ sym (run-answers (bs s) s.args.a (s.args.b - s.args.a)
-    (sym l.load-run.ensures.0 ∙ sym c.in_width.ensures ∙ not-false _ c.if1.false)) in
+    (sym l.load-run.ensures.0 ∙ sym c.in_width.ensures ∙ not-false _ c.if-not-in_width.false)) in
     (d.0 ∙ o, (d.1.0 ∙ ap₂ (wrong_of h.params.k h.params.d) same o, (stands l, d.1.1)))

@@ -16,7 +16,7 @@ use Rattle.rounds.specs.declared.Found.TheVariants.{Wrong, Nothing}
 use Rattle.rounds.proofs.Arrays.{take-of}
 use Rattle.decoder.proofs.Rounds.{Sought, Jumped, Round, start, round}
 use Rattle.decoder.proofs.search.Goals as goal
-use Rattle.decoder.proofs.search.Goals.{After-round-got, Else-all, In-Wrong}
+use Rattle.decoder.proofs.search.Goals.{After-round-got, Else-all, In-Wrong, Start}
 
 -- the shares that are still in, at the head of the loop; there are t + 1 of them at least
 abbrev Head : Type 0
@@ -47,8 +47,8 @@ loop-w-init c =
 
 pub round-got-requires : goal.round-got-requires
 round-got-requires c =
-    let l = c.before in
-    let p = l.before.requires in
+    let l = (goal.at.round-got-requires c).Start in
+    let p = l.requires in
     let v = l.loop.invariant in
     (p.0, p.1, p.2, v.0, enough l, v.3.holders, v.3.width, v.4)
 

@@ -23,9 +23,9 @@ bs s = s.args.bytes.now
 
 pub returns-then-accepted-ne0 : goal.returns-then-accepted-ne0
 returns-then-accepted-ne0 c =
-    let s = c.before in
-    let r = c.accept in
-    let n = c.if1.true in
+    let s = (goal.at.returns-then-accepted-ne0 c).Start in
+    let r = c.accept-accepted in
+    let n = c.if-accepted-ne0.true in
     sym (body-empty (bs s) s.args.holder s.args.p r.result.fault n
     (sym (body_refused (bs s) s.args.holder s.args.p r.result r.ensures n)))
 
@@ -48,8 +48,8 @@ fault-is c =
 
 pub returns-then-first-ne0 : goal.returns-then-first-ne0
 returns-then-first-ne0 c =
-    let s = c.before in
-    sym (body-empty (bs s) s.args.holder s.args.p c.first.result c.if2.true (sym (fault-is (goal.at.returns-then-first-ne0 c).After-place_fault)))
+    let s = (goal.at.returns-then-first-ne0 c).Start in
+    sym (body-empty (bs s) s.args.holder s.args.p c.first.result c.if-first-ne0.true (sym (fault-is (goal.at.returns-then-first-ne0 c).After-place_fault)))
 
 abbrev H : Else-first-ne0 → Heading
 H c = c.accept-accepted.result.heading

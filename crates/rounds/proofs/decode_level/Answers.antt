@@ -49,9 +49,9 @@ left-of c =
 pub compare-c-requires : goal.compare-c-requires
 compare-c-requires c =
     let b = (goal.at.compare-c-requires c).After-residues-arg-1 in
-    let p = b.before.requires in
+    let p = b.requires in
     let o = left-of b in
-    (omega (arith, p.4), p.3, o.holders-six, o.shaped, rw (add-one b.before.args.t) o.first)
+    (omega (arith, p.4), p.3, o.holders-six, o.shaped, rw (add-one b.args.t) o.first)
 
 set_is : (c : After-compare-c) → (let s = (goal.at.After-compare-c c).Start in c.compare-c.result.set ≡ error_set s.args.k s.args.d (poly s) (shares s))
 set_is c = c.compare-c.ensures.0 ∙ (left-of (goal.at.After-compare-c c).After-residues-arg-1).set
