@@ -3,7 +3,6 @@ use native.Mathlib.Omega.{arith}
 use mathlib.Core.Path.{◌≡◌, ◌∙◌, sym}
 use lib.ListN.{length}
 use Rattle.galois.proofs.Held.{word_good, scaled-none, scaled-one}
-use borrow.Author.Rules.{rules}
 use Rattle.ring.proofs.add_picked.Goals as goal
 
 pub returns-then-c-eq0 : goal.returns-then-c-eq0

@@ -4,7 +4,6 @@ use mathlib.Core.Path.{◌≡◌, sym}
 use lib.ListN.{length}
 use Rattle.galois.specs.Element.{plus_w}
 use Rattle.galois.proofs.Zip.{zip-six}
-use borrow.Author.Rules.{rules}
 use Rattle.ring.proofs.add_scaled.Goals as goal
 
 pub returns : goal.returns

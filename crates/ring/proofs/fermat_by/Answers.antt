@@ -2,11 +2,10 @@
 use borrow.Author.Rules.{rules}
 use native.Mathlib.Omega.{arith}
 use mathlib.Core.Path.{◌≡◌, sym, ap, ◌∙◌}
-use Prim.Native.Nat.{suc, ◌+◌, ◌-◌, ◌≤◌}
+use Prim.Native.Nat.{suc, ◌+◌, ◌-◌}
 use lib.ListN.{length, take}
 use lib.Seq.{length-take-le}
-use Rattle.galois.specs.Element.{product, lower, reduce, held}
-use Rattle.galois.specs.Inversion.{fermat}
+use Rattle.galois.specs.Element.{product, lower, reduce}
 use Rattle.galois.proofs.Table.{length-lower}
 use Rattle.galois.proofs.Lists.{length-product}
 use Rattle.galois.proofs.Inverse.{fermat-start, fermat-turn}

@@ -1,15 +1,8 @@
 -- `ring::horner_by_words` meets its contract: a turn of the loop takes one word more of the first factor. Assumes nothing.
-use borrow.Author.Rules.{rules}
-use native.Mathlib.Omega.{arith}
-use mathlib.Core.Path.{◌≡◌, refl, sym, ◌∙◌}
-use Prim.Native.Nat.{◌-◌, ◌≤◌}
-use lib.ListN.{length, take, drop, get_or}
-use lib.Seq.{length-take-le, get_or-take}
-use Rattle.galois.specs.Element.{down_w, plus_w, lower, product}
-use Rattle.galois.proofs.Table.{length-lower}
-use Rattle.galois.proofs.Lists.{length-product}
-use Rattle.galois.proofs.Held.{held_same}
-use Rattle.galois.proofs.Horner.{turn, turn-length, no-turn}
+use mathlib.Core.Path.{◌≡◌}
+use Prim.Native.Nat.{◌≤◌}
+use lib.ListN.{length, take, drop}
+use Rattle.galois.specs.Element.{lower, product}
 use Rattle.ring.proofs.horner_by_words.Given as goal
 
 abbrev pub invariant-loop-i : goal.invariant-loop-i

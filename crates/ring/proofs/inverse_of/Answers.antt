@@ -1,5 +1,4 @@
 -- `ring::inverse_of` meets its contract: the chain of squares modulo two, then as many steps as reach k bits, cut to k. Assumes nothing.
-use borrow.Author.Rules.{rules}
 use native.Mathlib.Omega.{arith}
 use mathlib.Core.Path.{◌≡◌, sym, ap, ◌∙◌}
 use Prim.Native.Nat.{◌-◌}

@@ -3,7 +3,6 @@ use native.Mathlib.Omega.{arith}
 use mathlib.Core.Path.{◌≡◌, sym}
 use lib.ListN.{length}
 use Rattle.galois.proofs.Held.{held-six}
-use borrow.Author.Rules.{rules}
 use Rattle.ring.proofs.keep.Goals as goal
 
 pub returns : goal.returns

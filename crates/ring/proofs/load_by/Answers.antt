@@ -2,10 +2,10 @@
 use borrow.Author.Rules.{rules}
 use native.Mathlib.Omega.{arith}
 use mathlib.Core.Path.{◌≡◌, refl, sym, ◌∙◌}
-use Prim.Native.Nat.{◌-◌, ◌≤◌}
+use Prim.Native.Nat.{◌-◌}
 use native.Mathlib.Nat.{zero-add}
 use lib.ListN.{length, drop, length-drop}
-use lib.Seq.{paste, get_or-drop}
+use lib.Seq.{get_or-drop}
 use Rattle.words.proofs.Fill.{fill-next}
 use Rattle.ring.proofs.load_by.Goals as goal
 use Rattle.ring.proofs.load_by.Goals.{At-loop-j}

@@ -1,12 +1,8 @@
 -- `ring::load_by` meets its contract: the words copied so far. Assumes nothing.
-use borrow.Author.Rules.{rules}
-use native.Mathlib.Omega.{arith}
-use mathlib.Core.Path.{◌≡◌, refl, sym, ◌∙◌}
+use mathlib.Core.Path.{◌≡◌}
 use Prim.Native.Nat.{◌-◌, ◌≤◌}
-use native.Mathlib.Nat.{zero-add}
-use lib.ListN.{length, drop, length-drop}
-use lib.Seq.{paste, get_or-drop}
-use Rattle.words.proofs.Fill.{fill-next}
+use lib.ListN.{drop}
+use lib.Seq.{paste}
 use Rattle.ring.proofs.load_by.Given as goal
 
 abbrev pub invariant-loop-j : goal.invariant-loop-j

@@ -5,7 +5,6 @@ use Prim.Native.Nat.{ℕ, ◌≤◌}
 use lib.ListN.{get_or}
 use Rattle.galois.specs.Element.{held, lower}
 use Rattle.galois.proofs.Held.{to-six}
-use borrow.Author.Rules.{rules}
 use native.Mathlib.Omega.{arith}
 use Rattle.ring.proofs.lower_of.Goals as goal
 

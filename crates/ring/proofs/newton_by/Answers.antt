@@ -2,13 +2,12 @@
 use borrow.Author.Rules.{rules}
 use native.Mathlib.Omega.{arith}
 use mathlib.Core.Path.{◌≡◌, refl, sym, ap, ◌∙◌}
-use mathlib.Core.List.{List}
-use Prim.Native.Nat.{ℕ, suc, ◌+◌, ◌-◌, ◌^◌, ◌≤◌}
+use Prim.Native.Nat.{suc, ◌+◌, ◌^◌}
 use native.Mathlib.Nat.{pow-suc}
 use lib.ListN.{length, take}
 use lib.Seq.{length-take-le}
 use Rattle.words.specs.Word.{sub_w}
-use Rattle.galois.specs.Element.{Element, product, lower, difference, held}
+use Rattle.galois.specs.Element.{product, lower, difference, held}
 use Rattle.galois.specs.Inversion.{newton, newtons, two_e}
 use Rattle.galois.proofs.Table.{length-lower}
 use Rattle.galois.proofs.Lists.{length-product, length-zip, product-comm}

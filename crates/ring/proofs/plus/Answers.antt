@@ -1,6 +1,5 @@
 -- `ring::plus` meets its contract: a sum with a product. Assumes nothing.
 use mathlib.Core.Path.{◌∙◌}
-use borrow.Author.Rules.{rules}
 use Rattle.ring.proofs.plus.Goals as goal
 
 pub returns : goal.returns

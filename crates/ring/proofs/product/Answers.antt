@@ -4,7 +4,6 @@ use mathlib.Core.Path.{◌≡◌, ◌∙◌}
 use lib.ListN.{length, take}
 use lib.Seq.{length-take-le}
 use Rattle.galois.proofs.Narrow.{narrow-product}
-use borrow.Author.Rules.{rules}
 use Rattle.ring.proofs.product.Goals as goal
 
 pub returns : goal.returns

@@ -1,7 +1,6 @@
 -- `ring::product64` meets its contract: in each arm the loop's contract at that d. Assumes nothing.
 use native.Mathlib.Omega.{arith}
 use Rattle.words.proofs.InRange.{six}
-use borrow.Author.Rules.{rules}
 use Rattle.ring.proofs.product64.Goals as goal
 
 pub returns-in-2 : goal.returns-in-2

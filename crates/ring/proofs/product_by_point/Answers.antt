@@ -6,7 +6,6 @@ use lib.Seq.{length-take-le}
 use Rattle.galois.specs.Element.{point}
 use Rattle.galois.proofs.Points.{length-point}
 use Rattle.galois.proofs.Narrow.{narrow-product}
-use borrow.Author.Rules.{rules}
 use Rattle.ring.proofs.product_by_point.Goals as goal
 
 pub returns : goal.returns

@@ -5,7 +5,6 @@ use Prim.Native.Nat.{◌-◌}
 use lib.ListN.{length, get_or}
 use Rattle.galois.proofs.Held.{word_good}
 use Rattle.galois.proofs.Horner.{shift-first, shift-second}
-use borrow.Author.Rules.{rules}
 use Rattle.ring.proofs.shift.Goals as goal
 
 pub returns-then-low-eq0 : goal.returns-then-low-eq0

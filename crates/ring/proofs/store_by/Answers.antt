@@ -2,9 +2,8 @@
 use borrow.Author.Rules.{rules}
 use native.Mathlib.Omega.{arith}
 use mathlib.Core.Path.{◌≡◌, refl, sym}
-use Prim.Native.Nat.{◌-◌, ◌≤◌}
 use lib.ListN.{length, take, length-set}
-use lib.Seq.{paste, paste-zero, length-take-le, get_or-take}
+use lib.Seq.{paste-zero, length-take-le, get_or-take}
 use Rattle.words.proofs.Fill.{fill_more, fill-within}
 use Rattle.ring.proofs.store_by.Goals as goal
 use Rattle.ring.proofs.store_by.Goals.{At-loop-j}

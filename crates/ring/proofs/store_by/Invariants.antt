@@ -1,11 +1,8 @@
 -- `ring::store_by` meets its contract: the words copied so far. Assumes nothing.
-use borrow.Author.Rules.{rules}
-use native.Mathlib.Omega.{arith}
-use mathlib.Core.Path.{◌≡◌, refl, sym}
+use mathlib.Core.Path.{◌≡◌}
 use Prim.Native.Nat.{◌-◌, ◌≤◌}
-use lib.ListN.{length, take, length-set}
-use lib.Seq.{paste, paste-zero, length-take-le, get_or-take}
-use Rattle.words.proofs.Fill.{fill_more, fill-within}
+use lib.ListN.{length, take}
+use lib.Seq.{paste}
 use Rattle.ring.proofs.store_by.Given as goal
 
 abbrev pub invariant-loop-j : goal.invariant-loop-j

@@ -4,7 +4,6 @@ use mathlib.Core.Path.{◌≡◌, sym}
 use lib.ListN.{length}
 use Rattle.words.specs.Word.{add_w}
 use Rattle.galois.proofs.Zip.{zip-six}
-use borrow.Author.Rules.{rules}
 use Rattle.ring.proofs.sum.Goals as goal
 
 pub returns : goal.returns
