@@ -12,7 +12,7 @@ use Rattle.records.proofs.wide.Reads as wide-reads
 use Rattle.records.proofs.number.Goals as goal
 use Rattle.records.proofs.number.Goals.{After-wide-b}
 
-small : (c : After-wide-b) → c.before.before.before.loop.x < 256 ^ 7
+small : (c : After-wide-b) → c.loop-i.x < 256 ^ 7
 small c =
     let a = c.args in
     let i = c.loop-i.i in
@@ -41,11 +41,11 @@ overflow_mul-x c = omega (arith, small c)
 pub overflow_add-x : goal.overflow_add-x
 overflow_add-x c =
     omega (
-  arith,
-  small c,
-  c.shared_slice_known-in-loop-i-1.given
-      (c.args.at + (c.loop-i.i - 1)),
-)
+      arith,
+      small c,
+      c.shared_slice_known-in-loop-i-1.given
+          (c.args.at + (c.loop-i.i - 1)),
+    )
 
 pub loop-i-smaller : goal.loop-i-smaller
 loop-i-smaller c = omega arith

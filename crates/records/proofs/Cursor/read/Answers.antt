@@ -4,7 +4,6 @@ use Prim.Native.Nat.{ℕ, ◌+◌, ◌≤◌}
 use mathlib.Core.Bool.{true}
 use mathlib.Core.List.{List}
 use lib.ListN.{length}
-use borrow.Author.Tests.{not-true, not-false}
 use Rattle.records.specs.declared.Read.TheVariants.{Record}
 use native.Mathlib.Omega.{arith}
 use Rattle.records.specs.Layout.{body_at, record_size, body_size, known}
@@ -54,7 +53,7 @@ returns-then-bytes-at-lt-PREFIX_SIZE c =
 pub returns-then-not-known_length : goal.returns-then-not-known_length
 returns-then-not-known_length c =
     let o = (goal.at.returns-then-not-known_length c).After-known_length in
-    told (bs o) (at o) _ (sym (read-unknown (bs o) (at o) (differs o) (sym (known_is o) ∙ not-true _ c.if-not-known_length.true)))
+    told (bs o) (at o) _ (sym (read-unknown (bs o) (at o) (differs o) (sym (known_is o) ∙ c.if-not-known_length.true)))
 
 pub returns-then-bytes-at-2 : goal.returns-then-bytes-at-2
 unfolding record_size
@@ -64,7 +63,7 @@ returns-then-bytes-at-2 c =
 
 is_known : (c : Else-bytes-at-2) → known (kind_at (bs (goal.at.Else-bytes-at-2 c).After-known_length) (at (goal.at.Else-bytes-at-2 c).After-known_length))
     (len_at (bs (goal.at.Else-bytes-at-2 c).After-known_length) (at (goal.at.Else-bytes-at-2 c).After-known_length)) ≡ true
-is_known c = sym (known_is (goal.at.Else-bytes-at-2 c).After-known_length) ∙ not-false _ c.if-not-known_length.false
+is_known c = sym (known_is (goal.at.Else-bytes-at-2 c).After-known_length) ∙ c.if-not-known_length.false
 
 least : (c : Else-bytes-at-2) → 3 ≤ len_at (bs (goal.at.Else-bytes-at-2 c).After-known_length) (at (goal.at.Else-bytes-at-2 c).After-known_length)
 least c = known-min (kind_at (bs (goal.at.Else-bytes-at-2 c).After-known_length) (at (goal.at.Else-bytes-at-2 c).After-known_length)) (len_at (bs (goal.at.Else-bytes-at-2 c).After-known_length) (at (goal.at.Else-bytes-at-2 c).After-known_length)) (is_known c)
