@@ -2,7 +2,7 @@
 use mathlib.Core.Path.{◌≡◌, sym, ◌∙◌}
 use mathlib.Core.Bool.{false}
 use borrow.Author.Rules.{rules}
-use borrow.Author.Tests.{eq-eqb, eqb-true, not-true, not-false}
+use borrow.Author.Tests.{eq-eqb, eqb-true}
 use Rattle.words.proofs.Tests.{not-held, same_test, true-false}
 use Rattle.bundle.specs.Bundle.{belongs}
 use Rattle.bundle.specs.Acceptance.{Same}
@@ -17,8 +17,7 @@ pub returns-then-not-same_params : goal.returns-then-not-same_params
 returns-then-not-same_params c =
     let a = c.args in
     refused (goal.at.returns-then-not-same_params c).Start
-    (λ s. true-false (sym (same_params_lem a.a.params a.b.params s.params_is) ∙ sym c.same_params.ensures ∙ not-true _
-    c.if-not-same_params.true))
+    (λ s. true-false (sym (same_params_lem a.a.params a.b.params s.params_is) ∙ sym c.same_params.ensures ∙ c.if-not-same_params.true))
 
 pub returns-then-a-b : goal.returns-then-a-b
 returns-then-a-b c = refused (goal.at.returns-then-a-b c).Start (λ s. c.if-a-b.true s.archive_is)
@@ -30,8 +29,7 @@ returns c =
     same_test _ _
     (λ e. same-belongs a b
     (record {
-      params_is = params_same a.params b.params (sym c.same_params.ensures ∙ not-false _
-          c.if-not-same_params.false);
+      params_is = params_same a.params b.params (sym c.same_params.ensures ∙ c.if-not-same_params.false);
       archive_is = c.if-a-b.false;
       jobs_is = eqb-true a.jobs b.jobs e;
     }))

@@ -56,11 +56,11 @@ job_is c = c.job_length.ensures ∙ ap job_len c.heading_at-h.ensures
 pub overflow_add-base : goal.overflow_add-base
 overflow_add-base c =
     omega (
-  arith,
-  fits c,
-  c.requires,
-  c.well_formed,
-)
+      arith,
+      fits c,
+      c.requires,
+      c.well_formed,
+    )
 
 pub overflow_add-at : goal.overflow_add-at
 overflow_add-at c = omega (arith, fits c, c.well_formed)

@@ -21,7 +21,10 @@ bs s = s.args.bytes.now
 pub returns-then-bytes-start : goal.returns-then-bytes-start
 returns-then-bytes-start c =
     let s = (goal.at.returns-then-bytes-start c).Start in
-    (λ _. sym (files-empty (bs s) s.args.start c.if-bytes-start.true), λ z _. sym (one-empty (bs s) (omega (arith, c.if-bytes-start.true))))
+    record {
+      all = λ _. sym (files-empty (bs s) s.args.start c.if-bytes-start.true);
+      one = λ z _. sym (one-empty (bs s) (omega (arith, c.if-bytes-start.true)));
+    }
 
 pub loop-at-init : goal.loop-at-init
 loop-at-init c =
@@ -37,12 +40,13 @@ returns-then-left-eq0 c =
     let f = l.invariant.0 in
     let j = l.invariant.1.0 in
     let n = l.invariant.1.1 in
-    let t = c.loop-at-test.true in (
-      λ m. absurd (omega (arith, m, n, t, c.if-left-eq0.true, place-low (bs s) start f, j.at-is)),
-      λ z m.
+    let t = c.loop-at-test.true in
+    record {
+      all = λ m. absurd (omega (arith, m, n, t, c.if-left-eq0.true, place-low (bs s) start f, j.at-is));
+      one = λ z m.
           let g : f ≡ 1 = omega (arith, m, n, c.if-left-eq0.true) in
-          sym (one-over (bs s) l.at l.prev (rw (z, g) at j) (omega (arith, t)) t),
-    )
+          sym (one-over (bs s) l.at l.prev (rw (z, g) at j) (omega (arith, t)) t);
+    }
 
 pub file_fault-fault-requires : goal.file_fault-fault-requires
 file_fault-fault-requires c =
@@ -57,20 +61,25 @@ returns-then-fault-ne0 c =
     let start = s.args.start in
     let f = l.invariant.0 in
     let j = l.invariant.1.0 in
-    let e = c.file_fault-fault.ensures in (
-      λ _. e ∙ sym (files-some (bs s) start (omega (arith, c.if-bytes-start.false))
-          ∙ files-stop (bs s) start f l.at l.prev j c.loop-at-test.true (λ z. c.if-fault-ne0.true (e ∙ z))),
-      λ z m.
+    let e = c.file_fault-fault.ensures in
+    record {
+      all = λ _. e ∙ sym (files-some (bs s) start (omega (arith, c.if-bytes-start.false))
+          ∙ files-stop (bs s) start f l.at l.prev j c.loop-at-test.true (λ z. c.if-fault-ne0.true (e ∙ z)));
+      one = λ z m.
           let g : f ≡ 0 = omega (arith, m, l.invariant.1.1, c.if-left-eq0.false) in
           let e₀ = rw z at e in
-          e₀ ∙ sym (one-stop (bs s) l.at l.prev (rw (z, g) at j) (λ y. c.if-fault-ne0.true (e₀ ∙ y))),
-    )
+          e₀ ∙ sym (one-stop (bs s) l.at l.prev (rw (z, g) at j) (λ y. c.if-fault-ne0.true (e₀ ∙ y)));
+    }
 
-no_fault : (c : Else-fault-ne0) → let l = c.before.before.before.before.loop in
+-- the function's entry, and the file that has no fault
+abbrev S : Else-fault-ne0 → Start
+S c = (goal.at.Else-fault-ne0 c).Start
+
+no_fault : (c : Else-fault-ne0) → let l = c.loop-at in
     file_fault_at (bs (S c)) (S c).args.start l.prev l.at ≡ 0
 no_fault c = sym c.file_fault-fault.ensures ∙ c.if-fault-ne0.false
 
-file : (c : Else-fault-ne0) → let l = c.before.before.before.before.loop in FileOk (bs (S c)) (S c).args.start l.prev l.at
+file : (c : Else-fault-ne0) → let l = c.loop-at in FileOk (bs (S c)) (S c).args.start l.prev l.at
 file c = let l = c.loop-at in file-ok (bs (goal.at.Else-fault-ne0 c).Start) c.args.start l.prev l.at (no_fault c)
 
 pub heading_at-h-requires : goal.heading_at-h-requires
@@ -81,15 +90,15 @@ file_size-at-requires c =
     let r = ok-ranges _ (file (goal.at.file_size-at-requires c).Else-fault-ne0).heading.ranges in
     rw c.heading_at-h.ensures (r.book.d-high, r.jobs_high)
 
-size_is : (c : After-file_size-at) → let e = c.before.before in
-    c.file-size.result ≡ file_size (heading_of (bs (S e)) e.before.before.before.before.loop.at)
+size_is : (c : After-file_size-at) → let e = (goal.at.After-file_size-at c).Else-fault-ne0 in
+    c.file_size-at.result ≡ file_size (heading_of (bs (S e)) e.loop-at.at)
 size_is c = c.file_size-at.ensures ∙ ap file_size c.heading_at-h.ensures
 
-size_fits : (c : After-file_size-at) → let e = c.before.before in
-    e.before.before.before.before.loop.at + c.file-size.result ≤ length (bs (S e))
+size_fits : (c : After-file_size-at) → let e = (goal.at.After-file_size-at c).Else-fault-ne0 in
+    e.loop-at.at + c.file_size-at.result ≤ length (bs (S e))
 size_fits c = rw (size_is c) (file (goal.at.After-file_size-at c).Else-fault-ne0).within
 
-size_low : (c : After-file_size-at) → 7 ≤ c.file-size.result
+size_low : (c : After-file_size-at) → 7 ≤ c.file_size-at.result
 size_low c =
     let e = (goal.at.After-file_size-at c).Else-fault-ne0 in
     let h = heading_of (bs (goal.at.Else-fault-ne0 e).Start) e.loop-at.at in
@@ -124,9 +133,10 @@ returns c =
     let start = s.args.start in
     let f = l.invariant.0 in
     let j = l.invariant.1.0 in
-    let some : start < length (bs s) = omega (arith, c.if-bytes-start.false) in (
-      λ _. sym (files-some (bs s) start some ∙ files-none (bs s) start f l.at l.prev j c.loop-at-test.false),
-      λ z m.
+    let some : start < length (bs s) = omega (arith, c.if-bytes-start.false) in
+    record {
+      all = λ _. sym (files-some (bs s) start some ∙ files-none (bs s) start f l.at l.prev j c.loop-at-test.false);
+      one = λ z m.
           let g : f ≡ 1 = omega (arith, m, l.invariant.1.1, files-passed (bs s) start f l.at l.prev j (omega (arith, some, c.loop-at-test.false))) in
-          sym (one-whole (bs s) l.at l.prev (rw (z, g) at j) (omega (arith, some)) c.loop-at-test.false),
-    )
+          sym (one-whole (bs s) l.at l.prev (rw (z, g) at j) (omega (arith, some)) c.loop-at-test.false);
+    }

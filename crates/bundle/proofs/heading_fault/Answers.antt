@@ -5,7 +5,6 @@ use mathlib.Core.Bool.{true}
 use mathlib.Core.List.{List}
 use lib.ListN.{length}
 use borrow.Author.Rules.{rules}
-use borrow.Author.Tests.{not-true, not-false}
 use native.Mathlib.Omega.{arith}
 use Rattle.words.specs.Refusal.{first, unless}
 use Rattle.records.specs.Layout.{head_kind, head_len, head_size}
@@ -37,12 +36,12 @@ framed_is c = c.is_record.ensures
 pub returns-then-not-is_record : goal.returns-then-not-is_record
 returns-then-not-is_record c =
     let a = c.args in sym (heading-7 (bs (goal.at.returns-then-not-is_record c).Start) a.base a.prev a.at
-    (sym (framed_is (goal.at.returns-then-not-is_record c).After-is_record) ∙ not-true _ c.if-not-is_record.true))
+    (sym (framed_is (goal.at.returns-then-not-is_record c).After-is_record) ∙ c.if-not-is_record.true))
 
 -- past the first test there is a frame
 framed-yes : (c : Else-not-is_record) → framed (bs (goal.at.Else-not-is_record c).Start) (head_kind (h (goal.at.Else-not-is_record c).Start))
     (head_len (h (goal.at.Else-not-is_record c).Start)) c.args.at ≡ true
-framed-yes c = sym (framed_is (goal.at.Else-not-is_record c).After-is_record) ∙ not-false _ c.if-not-is_record.false
+framed-yes c = sym (framed_is (goal.at.Else-not-is_record c).After-is_record) ∙ c.if-not-is_record.false
 
 fits : (c : Else-not-is_record) → c.args.at + head_size (h (goal.at.Else-not-is_record c).Start) ≤ length (bs (goal.at.Else-not-is_record c).Start)
 fits c =

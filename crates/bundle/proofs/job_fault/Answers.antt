@@ -6,7 +6,6 @@ use mathlib.Core.List.{List}
 use lib.ListN.{length}
 use lib.Dec.{eqb, ltb}
 use borrow.Author.Rules.{rules}
-use borrow.Author.Tests.{not-true, not-false}
 use native.Mathlib.Omega.{arith}
 use Rattle.words.specs.Refusal.{unless}
 use Rattle.records.specs.Layout.{record_size, job_kind, body_at}
@@ -28,11 +27,11 @@ pub returns-then-not-is_record : goal.returns-then-not-is_record
 returns-then-not-is_record c =
     let a = c.args in
     sym (job-7 (bs (goal.at.returns-then-not-is_record c).Start) a.len a.base a.prev a.p a.at
-    (sym c.is_record.ensures ∙ not-true _ c.if-not-is_record.true))
+    (sym c.is_record.ensures ∙ c.if-not-is_record.true))
 
 framed-yes : (c : Else-not-is_record) → framed (bs (goal.at.Else-not-is_record c).Start) job_kind c.args.len
     c.args.at ≡ true
-framed-yes c = sym c.is_record.ensures ∙ not-false _ c.if-not-is_record.false
+framed-yes c = sym c.is_record.ensures ∙ c.if-not-is_record.false
 
 -- the job number is within the bytes
 fits : (c : Else-not-is_record) → body_at c.args.at + 8 ≤ length (bs (goal.at.Else-not-is_record c).Start)
@@ -63,7 +62,7 @@ pub returns-then-not-rises : goal.returns-then-not-rises
 returns-then-not-rises c =
     let a = c.args in
     sym (job-low (bs (goal.at.returns-then-not-rises c).Start) a.len a.base a.prev a.p a.at
-    (framed-yes (goal.at.returns-then-not-rises c).Else-not-is_record) (rises-is (goal.at.returns-then-not-rises c).After-rises ∙ not-true _ c.if-not-rises.true))
+    (framed-yes (goal.at.returns-then-not-rises c).Else-not-is_record) (rises-is (goal.at.returns-then-not-rises c).After-rises ∙ c.if-not-rises.true))
 
 pub word_at-requires : goal.word_at-requires
 word_at-requires c = omega (arith, fits (goal.at.word_at-requires c).Else-not-is_record, c.requires)
@@ -76,4 +75,4 @@ returns c =
     c.unless.ensures
     ∙ ap₂ (λ (x y : ℕ). unless (eqb x y) 8) c.word_at.ensures (num-is (goal.at.returns c).After-word_at-num)
     ∙ sym (job-8 (bs s) a.len a.base a.prev a.p a.at (framed-yes (goal.at.returns c).Else-not-is_record)
-    (rises-is (goal.at.returns c).After-rises ∙ not-false _ c.if-not-rises.false))
+    (rises-is (goal.at.returns c).After-rises ∙ c.if-not-rises.false))

@@ -30,20 +30,20 @@ returns-then-fault-ne0 c =
     (λ z. c.if-fault-ne0.true (e ∙ z)) c.loop-p-test.true
 
 no_fault : (c : Else-fault-ne0) →
-    job_fault_at c.before.before.before.before.before.args.bytes.now c.before.before.before.before.before.args.len
-    c.before.before.before.loop.first c.before.before.before.loop.prev c.before.before.before.loop.p
-    c.before.before.before.loop.here ≡ 0
+    job_fault_at c.args.bytes.now c.args.len
+    c.loop-p.first c.loop-p.prev c.loop-p.p
+    c.loop-p.here ≡ 0
 no_fault c = sym c.job_fault-fault.ensures ∙ c.if-fault-ne0.false
 
-fits : (c : Else-fault-ne0) → c.before.before.before.loop.here + (4 + c.before.before.before.before.before.args.len) ≤ length
-    c.before.before.before.before.before.args.bytes.now
+fits : (c : Else-fault-ne0) → c.loop-p.here + (4 + c.args.len) ≤ length
+    c.args.bytes.now
 unfolding record_size
 fits c =
     let l = c.loop-p in
     (job-ok c.args.bytes.now c.args.len l.first
     l.prev l.p l.here (no_fault c)).frame.within
 
-low : (c : Else-fault-ne0) → c.before.before.before.loop.first ≤ c.before.before.before.loop.here
+low : (c : Else-fault-ne0) → c.loop-p.first ≤ c.loop-p.here
 low c =
     let j = c.loop-p.invariant.1 in
     omega (arith, j.first-is, j.at-is, c.requires)
@@ -51,21 +51,21 @@ low c =
 pub overflow_add-here : goal.overflow_add-here
 overflow_add-here c =
     omega (
-  arith,
-  fits c,
-  known-job-min c.args.len
-      c.requires.0,
-  c.well_formed,
-)
+      arith,
+      fits c,
+      known-job-min c.args.len
+          c.requires.0,
+      c.well_formed,
+    )
 
 pub word_at-prev-requires : goal.word_at-prev-requires
 word_at-prev-requires c =
     omega (
-  arith,
-  fits c,
-  known-job-min c.args.len
-      c.requires.0,
-)
+      arith,
+      fits c,
+      known-job-min c.args.len
+          c.requires.0,
+    )
 
 pub overflow_add-first : goal.overflow_add-first
 overflow_add-first c = omega (arith, fits (goal.at.overflow_add-first c).Else-fault-ne0, c.well_formed)
@@ -85,8 +85,8 @@ overflow_add-p c = omega (arith, c.loop-p-test.true, c.ranges.count)
 pub loop-p-smaller : goal.loop-p-smaller
 loop-p-smaller c = omega (arith, c.loop-p-test.true)
 
-num-is : (c : After-word_at-prev) → c.word_at.result ≡ num_of c.before.before.before.before.before.before.args.bytes.now
-    c.before.before.before.before.loop.here
+num-is : (c : After-word_at-prev) → c.word_at-prev.result ≡ num_of c.args.bytes.now
+    c.loop-p.here
 unfolding num_of
 num-is c = c.word_at-prev.ensures
 
