@@ -16,7 +16,7 @@ use Rattle.fetch.specs.Fetch.{file_of, body_fault}
 use Rattle.fetch.proofs.Fetch.{body_refused, body-told, body-empty, body-part, body-accepted}
 use Rattle.fetch.proofs.Places.{file-asks, job-asks, job-spot, job-fits}
 use Rattle.fetch.proofs.fetch_body.Goals as goal
-use Rattle.fetch.proofs.fetch_body.Goals.{After-first, After-h-1, After-job_at-start, After-place_fault, Else-first-ne0, Start}
+use Rattle.fetch.proofs.fetch_body.Goals.{After-first, After-h-1, After-job_at-start, Else-first-ne0, Start}
 
 abbrev bs : Start → List ℕ
 bs s = s.args.bytes.now
@@ -49,7 +49,7 @@ fault-is c =
 pub returns-then-first-ne0 : goal.returns-then-first-ne0
 returns-then-first-ne0 c =
     let s = (goal.at.returns-then-first-ne0 c).Start in
-    sym (body-empty (bs s) s.args.holder s.args.p c.first.result c.if-first-ne0.true (sym (fault-is (goal.at.returns-then-first-ne0 c).After-place_fault)))
+    sym (body-empty (bs s) s.args.holder s.args.p c.first.result c.if-first-ne0.true (sym (fault-is (goal.at.returns-then-first-ne0 c).After-first)))
 
 abbrev H : Else-first-ne0 → Heading
 H c = c.accept-accepted.result.heading

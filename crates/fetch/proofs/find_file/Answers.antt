@@ -26,25 +26,25 @@ file_size-size-requires c =
     let r = bundle-ranges (bs (goal.at.file_size-size-requires c).Start) (whole (goal.at.file_size-size-requires c).Start) in
     rw c.heading_at.ensures (r.book.d-high, r.jobs_high)
 
-size_is : (c : After-file_size-size) → c.file-size.result ≡ file_size (bundle_heading (bs c.before.before.before))
+size_is : (c : After-file_size-size) → c.file_size-size.result ≡ file_size (bundle_heading (bs (goal.at.After-file_size-size c).Start))
 size_is c = c.file_size-size.ensures ∙ ap file_size c.heading_at.ensures
 
 pub loop-f-init : goal.loop-f-init
 loop-f-init c = find-start (bs (goal.at.loop-f-init c).Start) c.args.holder
 
 -- there is a file f, within the bytes
-low : (c : In-loop-f) → c.before.loop.f < files_of (bs c.before.before.before.before.before)
+low : (c : In-loop-f) → c.loop-f.f < files_of (bs (goal.at.In-loop-f c).Start)
 low c = omega (arith, c.loop-f-test.true, c.requires.1)
 
-within : (c : In-loop-f) → c.before.loop.at + file_size (bundle_heading (bs c.before.before.before.before.before)) ≤
-    length (bs c.before.before.before.before.before)
+within : (c : In-loop-f) → c.loop-f.at + file_size (bundle_heading (bs (goal.at.In-loop-f c).Start)) ≤
+    length (bs (goal.at.In-loop-f c).Start)
 within c =
     omega (
-  arith,
-  file-within (bs (goal.at.In-loop-f c).Start) order_size
-      (whole (goal.at.In-loop-f c).Start).files c.loop-f.f (low c),
-  c.loop-f.invariant.at-is,
-)
+      arith,
+      file-within (bs (goal.at.In-loop-f c).Start) order_size
+          (whole (goal.at.In-loop-f c).Start).files c.loop-f.f (low c),
+      c.loop-f.invariant.at-is,
+    )
 
 pub heading_at-h-requires : goal.heading_at-h-requires
 heading_at-h-requires c =
@@ -61,11 +61,11 @@ returns-then-h-holder c =
 pub overflow_add-at : goal.overflow_add-at
 overflow_add-at c =
     omega (
-  arith,
-  within (goal.at.overflow_add-at c).In-loop-f,
-  size_is (goal.at.overflow_add-at c).After-file_size-size,
-  c.well_formed,
-)
+      arith,
+      within (goal.at.overflow_add-at c).In-loop-f,
+      size_is (goal.at.overflow_add-at c).After-file_size-size,
+      c.well_formed,
+    )
 
 pub overflow_add-f : goal.overflow_add-f
 overflow_add-f c = omega (arith, c.loop-f-test.true, c.ranges.files)
