@@ -18,6 +18,14 @@ use Rattle.writer.proofs.Calls.{heading-pieces}
 use Rattle.writer.proofs.put_heading.Goals as goal
 use Rattle.writer.proofs.put_heading.Goals.{Start}
 
+-- the parameters and the holder fit a byte each
+record Small (s : Start) : Type 0 where
+  k : s.args.h.params.k < 256
+  d : s.args.h.params.d < 256
+  n : s.args.h.params.n < 256
+  t : s.args.h.params.t < 256
+  holder : s.args.h.holder < 256
+
 small : (s : Start) → Small s
 small s =
     let h = s.args.h in
@@ -55,17 +63,17 @@ pub put_number-requires-2 : goal.put_number-requires-2
 unfolding record_size head_len
 put_number-requires-2 c =
     omega (
-  arith,
-  room (goal.at.put_number-requires-2 c).Start,
-)
+      arith,
+      room (goal.at.put_number-requires-2 c).Start,
+    )
 
 pub put_number-requires-3 : goal.put_number-requires-3
 unfolding record_size head_len
 put_number-requires-3 c =
     omega (
-  arith,
-  room (goal.at.put_number-requires-3 c).Start,
-)
+      arith,
+      room (goal.at.put_number-requires-3 c).Start,
+    )
 
 pub returns : goal.returns
 unfolding head_len head_kind record_size

@@ -36,14 +36,13 @@ put_number-requires c = omega (arith, room (goal.at.put_number-requires c).Start
 pub overflow_add-body-2 : goal.overflow_add-body-2
 overflow_add-body-2 c =
     omega (
-  arith,
-  room (goal.at.overflow_add-body-2 c).Start,
-  c.well_formed,
-)
+      arith,
+      room (goal.at.overflow_add-body-2 c).Start,
+      c.well_formed,
+    )
 
 pub put_words-requires : goal.put_words-requires
-put_words-requires c =
-    (
+put_words-requires c = (
   omega (arith, room (goal.at.put_words-requires c).Start),
   c.requires.2,
 )

@@ -16,6 +16,7 @@ use Rattle.writer.specs.Write.{job_of, jobs_of}
 use Rattle.writer.proofs.Put.{Written, written_none, written-more, written-length, written-end}
 use Rattle.writer.proofs.Fits.{job-length}
 use Rattle.writer.proofs.Calls.{jobs-count, jobs-more, job-words}
+use Rattle.writer.proofs.put_jobs.Invariants.{At}
 use Rattle.writer.proofs.put_jobs.Goals as goal
 use Rattle.writer.proofs.put_jobs.Goals.{After-job_length-size, After-put_job-arg-1}
 
@@ -23,10 +24,38 @@ start : (out₀ : List ℕ) (at : ℕ) (h : Heading) (ns ws : List ℕ) → at �
 unfolding jobs_bytes
 start out₀ at h ns ws l = record { low = omega arith; same = refl; size = omega arith; bytes = written_none out₀ at l }
 
+module _ (out₀ : List ℕ) (at : ℕ) (h : Heading) (ns ws out : List ℕ) (p : ℕ) (j : At out₀ at h ns ws out p)
+    (fits : at + length ns * job_size h ≤ length out₀) (words : length ns * h.params.d ≤ length ws) (l : p < length ns) where
+  -- the job's bytes and its words are there
+  room : at + p * job_size h + job_size h ≤ length out₀
+  room = omega (arith, mul-le-mul_right (job_size h) l)
+
+  source : p * h.params.d + h.params.d ≤ length ws
+  source = omega (arith, mul-le-mul_right h.params.d l)
+
+  more : (o : List ℕ) (here : ℕ) → here ≡ at + p * job_size h →
+      o ≡ take here out ++ (job_bytes h (job_of (get_or ns p 0) (take h.params.d (drop (p * h.params.d) ws))) ++ drop (here + job_size h) out) →
+      At out₀ at h ns ws o (p + 1)
+  more o here f e =
+      let d = h.params.d in
+      let js = jobs_of d ns ws in
+      let w = take d (drop (p * d) ws) in
+      let b = job_bytes h (job_of (get_or ns p 0) w) in
+      let n : length b ≡ job_size h = job-length h (job_of (get_or ns p 0) w) (job-words d ws (p * d) source) in
+      let c : jobs_bytes h (take (p + 1) js) ≡ jobs_bytes h (take p js) ++ b = jobs-more h d ns ws p l in
+      let q : Written out₀ at (jobs_bytes h (take p js) ++ b) o =
+      written-more out₀ at (jobs_bytes h (take p js)) out b o here (job_size h) j.bytes (omega (arith, j.size)) (sym n) (omega (arith, room)) e in
+      record {
+        low = omega arith;
+        same = written-length out₀ at (jobs_bytes h (take p js) ++ b) o q;
+        size = ap length c ∙ length-append (jobs_bytes h (take p js)) b ∙ omega (arith, j.size);
+        bytes = rw c q;
+      }
+
 pub job_length-size-requires : goal.job_length-size-requires
 job_length-size-requires c = c.requires.0
 
-size_is : (c : After-job_length-size) → 4 + c.job-length.result ≡ job_size c.before.before.before.before.args.h
+size_is : (c : After-job_length-size) → 4 + c.job_length-size.result ≡ job_size c.args.h
 unfolding record_size
 size_is c = ap (λ (n : ℕ). 4 + n) c.job_length-size.ensures
 
@@ -39,9 +68,9 @@ loop-p-init c =
     start a.out.now a.at a.h a.numbers.now a.words.now (omega (arith, c.requires))
 
 -- the job and its words are within the lists
-ahead : (c : After-put_job-arg-1) → let a = c.before.before.before.before.before.before.before.args in
-    let p = c.before.before.loop.p in
-    (a.at + p * (4 + c.before.before.before.job-length.result) + job_size a.h ≤ length a.out.now) ×
+ahead : (c : After-put_job-arg-1) → let a = c.args in
+    let p = c.loop-p.p in
+    (a.at + p * (4 + c.job_length-size.result) + job_size a.h ≤ length a.out.now) ×
     (p * a.h.params.d + a.h.params.d ≤ length a.words.now)
 ahead c =
     let a = c.args in

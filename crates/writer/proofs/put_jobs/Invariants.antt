@@ -18,6 +18,13 @@ use Rattle.writer.proofs.Fits.{job-length}
 use Rattle.writer.proofs.Calls.{jobs-count, jobs-more, job-words}
 use Rattle.writer.proofs.put_jobs.Given as goal
 
+-- where the loop stands at place p: what is written
+pub record At (out₀ : List ℕ) (at : ℕ) (h : Heading) (ns ws out : List ℕ) (p : ℕ) : Type 0 where
+  pub low : p ≤ length ns
+  pub same : length out ≡ length out₀
+  pub size : length (jobs_bytes h (take p (jobs_of h.params.d ns ws))) ≡ p * job_size h
+  pub bytes : Written out₀ at (jobs_bytes h (take p (jobs_of h.params.d ns ws))) out
+
 abbrev pub invariant-loop-p : goal.invariant-loop-p
 invariant-loop-p l = At l.initial.out l.at l.h l.numbers l.words l.out l.p
 

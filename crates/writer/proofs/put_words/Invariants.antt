@@ -17,7 +17,7 @@ abbrev pub S : List ℕ → ℕ → ℕ → List ℕ
 S words from d = take d (drop from words)
 
 abbrev pub invariant-loop-i : goal.invariant-loop-i
-invariant-loop-i l =     (l.i ≤ l.d) × (l.here ≡ l.at + 8 * l.i) × (length l.out ≡ length l.initial.out) × Written l.initial.out l.at (words_bytes 8 (take l.i (S l.words l.from l.d))) l.out
+invariant-loop-i l = (l.i ≤ l.d) × (l.here ≡ l.at + 8 * l.i) × (length l.out ≡ length l.initial.out) × Written l.initial.out l.at (words_bytes 8 (take l.i (S l.words l.from l.d))) l.out
 
 abbrev pub decreases-loop-i : goal.decreases-loop-i
 decreases-loop-i l = l.d - l.i

@@ -26,6 +26,16 @@ fs s = s.args.files.now
 abbrev out : Start → List ℕ
 out s = s.args.out.now
 
+-- the fault, case by case
+module _ (e : ℕ) (files : List ℕ) (size : ℕ) where
+  by-files : (files_fault files 0 ≡ 0 → ⊥) → bundle_write_fault e files size ≡ files_fault files 0
+  unfolding bundle_write_fault
+  by-files n = first_some (bundle_fault (order_bytes e ++ files)) _ (λ z. n (sym (order-fault e files) ∙ z)) ∙ order-fault e files
+
+  by_size : files_fault files 0 ≡ 0 → bundle_write_fault e files size ≡ unless (eqb size (order_size + length files)) 2
+  unfolding bundle_write_fault length_fault
+  by_size z = first-none (bundle_fault (order_bytes e ++ files)) _ (order-fault e files ∙ z)
+
 -- a call with a known fault that is none of 0 leaves its output
 declined : (s : Start) (r : ℕ) → (r ≡ 0 → ⊥) → bundle_write_fault s.args.e (fs s) (length (out s)) ≡ r →
     (r ≡ bundle_write_fault s.args.e (fs s) (length (out s)))

@@ -5,7 +5,6 @@ use mathlib.Core.Bool.{true}
 use mathlib.Core.List.{List}
 use lib.ListN.{length}
 use borrow.Author.Rules.{rules}
-use borrow.Author.Tests.{not-true, not-false}
 use Rattle.words.specs.Faults.{width_fault}
 use Rattle.words.specs.Refusal.{first, unless}
 use Rattle.words.proofs.Refusal.{first-none, first_some}
@@ -26,7 +25,7 @@ abbrev others : Start → ℕ
 others s = let h = s.args.h in first (unless (holder_ok 0 h) 4) (first (unless (rising (ns s)) 7) (width_fault h.params.k (ws s)))
 
 ranges-yes : (c : Else-not-ranges_ok) → ranges_ok c.args.h ≡ true
-ranges-yes c = sym c.ranges_ok.ensures ∙ not-false _ c.if-not-ranges_ok.false
+ranges-yes c = sym c.ranges_ok.ensures ∙ c.if-not-ranges_ok.false
 
 told : (c : After-unless-lengths) → let s = (goal.at.After-unless-lengths c).Start in c.unless-lengths.result ≡ unless (sizes_ok s.args.h (length (ws s)) s.args.size) 2
 told c = c.unless-lengths.ensures ∙ ap (λ t. unless t 2) c.sizes_ok.ensures
@@ -39,7 +38,7 @@ split c =
 pub returns-then-not-ranges_ok : goal.returns-then-not-ranges_ok
 returns-then-not-ranges_ok c =
     let s = (goal.at.returns-then-not-ranges_ok c).Start in
-    sym (write-1 s.args.h (ns s) (ws s) s.args.size (sym c.ranges_ok.ensures ∙ not-true _ c.if-not-ranges_ok.true))
+    sym (write-1 s.args.h (ns s) (ws s) s.args.size (sym c.ranges_ok.ensures ∙ c.if-not-ranges_ok.true))
 
 pub sizes_ok-requires : goal.sizes_ok-requires
 sizes_ok-requires c = ranges-yes c
