@@ -15,8 +15,7 @@ loop-i-init c = (search rules, paste-zero c.args.out.now c.args.at c.args.s.now,
 
 pub loop-i-preserved : goal.loop-i-preserved
 loop-i-preserved c =
-    let l = (goal.at.loop-i-preserved c).At-loop-i in
-    (
+    let l = (goal.at.loop-i-preserved c).At-loop-i in (
       omega arith,
       fill_more l.args.out.now l.args.s.now l.loop-i.out l.args.at l.loop-i.i 0 _ l.loop-i.invariant.1 (omega arith) (omega arith) refl,
       simp length-set l.loop-i.invariant.2,
