@@ -13,7 +13,7 @@ use Rattle.decimal.proofs.put_byte.Reads as put-byte-reads
 use Rattle.decimal.proofs.put_bytes.Reads as put-bytes-reads
 use Rattle.decimal.proofs.put_decimal.Reads as put-decimal-reads
 use Rattle.text.proofs.put_changed.Goals as goal
-use Rattle.text.proofs.put_changed.Goals.{After-out-1, After-put_byte, After-put_bytes-q, After-put_decimal-p, After-put_decimal-r, Start}
+use Rattle.text.proofs.put_changed.Goals.{After-put_byte, After-put_bytes-q, After-put_decimal-p, After-put_decimal-r, Start}
 
 -- the bytes of its four parts
 abbrev digits : Start → ℕ
@@ -51,7 +51,7 @@ text2 s = text1 s ++ ascii " holder "
 part2 : (c : After-put_bytes-q) → Upto (goal.at.After-put_bytes-q c).Start (digits (goal.at.After-put_bytes-q c).Start + 8) (text2 (goal.at.After-put_bytes-q c).Start) c.put_bytes-q.new.out c.put_bytes-q.result
 part2 c =
     part-more (ascii " holder ") 8 (omega arith) (omega (arith, room (goal.at.After-put_bytes-q c).Start))
-    (part1 (goal.at.After-put_bytes-q c).After-out-1) c.put_bytes-q.ensures c.put_bytes-q.auto.out
+    (part1 (goal.at.After-put_bytes-q c).After-put_decimal-p) c.put_bytes-q.ensures c.put_bytes-q.auto.out
 
 abbrev text3 : Start → List ℕ
 text3 s = text2 s ++ decimal s.args.holder
@@ -71,13 +71,10 @@ part4 c =
 pub put_decimal-p-requires : goal.put_decimal-p-requires
 put_decimal-p-requires c = omega (arith, room (goal.at.put_decimal-p-requires c).Start)
 
--- LOST slice-aggregate-put-bytes
-slice-aggregate-put-bytes c = search rules
-
 pub put_bytes-q-requires : goal.put_bytes-q-requires
 put_bytes-q-requires c =
-    let b = (goal.at.put_bytes-q-requires c).After-out-1 in
-    part_room (ascii " holder ") 8 (omega arith) (omega (arith, room (goal.at.After-out-1 b).Start)) (part1 b)
+    let b = (goal.at.put_bytes-q-requires c).After-put_decimal-p in
+    part_room (ascii " holder ") 8 (omega arith) (omega (arith, room (goal.at.After-put_decimal-p b).Start)) (part1 b)
 
 pub put_decimal-r-requires : goal.put_decimal-r-requires
 put_decimal-r-requires c =

@@ -36,15 +36,15 @@ others-lt c =
 
 -- its line comes next
 text : (c : In-loop-w)
-    → let n = (S c).args.number in
-    rest_lines n c.before.loop.i c.before.loop.w ≡ changed_line n (holder c) ++ rest_lines n (holder c) (others c)
+    → let n = c.args.number in
+    rest_lines n c.loop-w.i c.loop-w.w ≡ changed_line n (holder c) ++ rest_lines n (holder c) (others c)
 text c =
     let l = c.loop-w in
     changes-next c.args.number l.i l.w l.invariant.0 (pos_of_ne-zero c.loop-w-test.true) l.invariant.1
 
 -- and there is room for it
 room : (c : In-loop-w)
-    → c.before.loop.p + length (changed_line (S c).args.number (holder c)) ≤ length c.before.loop.out
+    → c.loop-w.p + length (changed_line c.args.number (holder c)) ≤ length c.loop-w.out
 room c =
     let n = c.args.number in
     let e = ap length (text c) ∙ length-append (changed_line n (holder c)) (rest_lines n (holder c) (others c)) in
@@ -79,7 +79,7 @@ loop-w-preserved c =
     let n = b.args.number in (
       holder-room b,
       others-lt b,
-      w.auto.0 ∙ b.loop-w.invariant.2,
+      w.auto.out ∙ b.loop-w.invariant.2,
       left-more (changed_line n (holder b)) (rest_lines n (holder b) (others b)) (room b) (rw (text b) at b.loop-w.invariant.3) w.ensures,
     )
 

@@ -17,7 +17,7 @@ use Rattle.text.proofs.put_changed.Reads as put-changed-reads
 use Rattle.text.proofs.put_changes.Given as goal
 
 abbrev pub invariant-loop-w : goal.invariant-loop-w
-invariant-loop-w l =     (l.i ≤ 64) × (l.w < 2 ^ (64 - l.i)) × (length l.out ≡ length l.initial.out) × Left l.initial.out l.at (changed_lines l.number (holders l.set)) l.out l.p (rest_lines l.number l.i l.w)
+invariant-loop-w l = (l.i ≤ 64) × (l.w < 2 ^ (64 - l.i)) × (length l.out ≡ length l.initial.out) × Left l.initial.out l.at (changed_lines l.number (holders l.set)) l.out l.p (rest_lines l.number l.i l.w)
 
 abbrev pub decreases-loop-w : goal.decreases-loop-w
 decreases-loop-w l = 64 - l.i

@@ -12,7 +12,7 @@ use Rattle.decimal.proofs.put_byte.Reads as put-byte-reads
 use Rattle.decimal.proofs.put_bytes.Reads as put-bytes-reads
 use Rattle.decimal.proofs.put_decimal.Reads as put-decimal-reads
 use Rattle.text.proofs.put_declined_line.Goals as goal
-use Rattle.text.proofs.put_declined_line.Goals.{After-out-3-1, After-put_byte-q, After-put_bytes, After-put_decimal-p, After-put_decimal-r, Start}
+use Rattle.text.proofs.put_declined_line.Goals.{After-put_byte-q, After-put_bytes, After-put_decimal-p, After-put_decimal-r, Start}
 
 -- the line so far, of at most n bytes
 abbrev Upto : Start → ℕ → List ℕ → List ℕ → ℕ → Type 0
@@ -46,7 +46,7 @@ text4 s = text3 s ++ ascii " - -\n"
 
 part4 : (c : After-put_bytes) → Upto (goal.at.After-put_bytes c).Start 46 (text4 (goal.at.After-put_bytes c).Start) c.put_bytes.new.out c.put_bytes.result
 part4 c =
-    let b = (goal.at.After-put_bytes c).After-out-3-1 in
+    let b = (goal.at.After-put_bytes c).After-put_decimal-r in
     part-more (ascii " - -\n") 5 (omega arith) (omega (arith, c.requires)) (part3 b) c.put_bytes.ensures c.put_bytes.auto.out
 
 pub put_decimal-p-requires : goal.put_decimal-p-requires
@@ -58,11 +58,8 @@ put_byte-q-requires c = part_room (ascii " ") 1 (omega arith) (omega (arith, c.r
 pub put_decimal-r-requires : goal.put_decimal-r-requires
 put_decimal-r-requires c = part_room (decimal c.args.state) 20 (twenty c.args.state (omega arith)) (omega (arith, c.requires)) (part2 (goal.at.put_decimal-r-requires c).After-put_byte-q)
 
--- LOST slice-aggregate-put-bytes
-slice-aggregate-put-bytes c = search rules
-
 pub put_bytes-requires : goal.put_bytes-requires
-put_bytes-requires c = part_room (ascii " - -\n") 5 (omega arith) (omega (arith, c.requires)) (part3 (goal.at.put_bytes-requires c).After-out-3-1)
+put_bytes-requires c = part_room (ascii " - -\n") 5 (omega arith) (omega (arith, c.requires)) (part3 (goal.at.put_bytes-requires c).After-put_decimal-r)
 
 pub returns : goal.returns
 returns c = rw (declined-parts c.args.number c.args.state) (part4 (goal.at.returns c).After-put_bytes).wrote

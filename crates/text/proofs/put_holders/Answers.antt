@@ -40,20 +40,19 @@ here l = holder_text (lowest l) (holder l)
 abbrev after : At-loop-w → List ℕ
 after l = after_text (lowest l) (holder l) (others l)
 
-text : (l : At-loop-w) → rest_text (lowest l) l.loop.i l.loop.w ≡ here l ++ after l
+text : (l : At-loop-w) → rest_text (lowest l) l.loop-w.i l.loop-w.w ≡ here l ++ after l
 text l = holders-next (lowest l) l.loop-w.i l.loop-w.w l.loop-w.invariant.0 l.loop-w.invariant.1.0 l.loop-w.invariant.1.1
 
 -- there is room for both
-room : (l : At-loop-w) → l.loop.p + (length (here l) + length (after l)) ≤ length l.loop.out
+room : (l : At-loop-w) → l.loop-w.p + (length (here l) + length (after l)) ≤ length l.loop-w.out
 room l =
     let e = ap length (text l) ∙ length-append (here l) (after l) in
     omega (arith, e, l.loop-w.invariant.2, l.loop-w.invariant.3.place, l.requires.1)
 
 -- what is left to write once it is written
 written_one : (c : After-put_holder-p)
-    → let l = c.before.before in
-    let s = l.before.before.before.before in
-    Left s.args.out.now s.args.at (holders_text (lowest l) s.args.set) c.put-holder.new.0 c.put-holder.result (after l)
+    → let l = (goal.at.After-put_holder-p c).At-loop-w in
+    Left l.args.out.now l.args.at (holders_text (lowest l) l.args.set) c.put_holder-p.new.out c.put_holder-p.result (after l)
 written_one c =
     let l = (goal.at.After-put_holder-p c).At-loop-w in
     left-more (here l) (after l) (omega (arith, room l)) (rw (text l) at l.loop-w.invariant.3) c.put_holder-p.ensures

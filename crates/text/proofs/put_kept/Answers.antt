@@ -37,11 +37,11 @@ part2 c =
 abbrev text3 : Start → List ℕ
 text3 s = text2 s ++ refused_line s.args.n
 
-part3 : (c : After-put_refused) → Upto (goal.at.After-put_refused c).Start (21 + line_room) (text3 (goal.at.After-put_refused c).Start) c.Put-refused.new.0 c.Put-refused.result
+part3 : (c : After-put_refused) → Upto (goal.at.After-put_refused c).Start (21 + line_room) (text3 (goal.at.After-put_refused c).Start) c.put_refused.new.out c.put_refused.result
 part3 c =
     let b = (goal.at.After-put_refused c).After-put_byte-q in
     part-more (refused_line c.args.n) line_room (refused-length c.args.n (omega arith))
-    (omega (arith, c.requires)) (part2 b) c.Put-refused.ensures c.Put-refused.auto.0
+    (omega (arith, c.requires)) (part2 b) c.put_refused.ensures c.put_refused.auto.out
 
 pub put_decimal-p-requires : goal.put_decimal-p-requires
 put_decimal-p-requires c = omega (arith, c.requires, twenty c.args.number (omega arith))

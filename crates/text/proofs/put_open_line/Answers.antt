@@ -17,7 +17,7 @@ use Rattle.decimal.proofs.put_decimal.Reads as put-decimal-reads
 use Rattle.text.proofs.put_holders.Reads as put-holders-reads
 use Rattle.text.proofs.put_words.Reads as put-words-reads
 use Rattle.text.proofs.put_open_line.Goals as goal
-use Rattle.text.proofs.put_open_line.Goals.{After-out-1, After-put_byte, After-put_byte-s, After-put_bytes-q, After-put_decimal-p, After-put_holders-r, After-put_words-t, Start}
+use Rattle.text.proofs.put_open_line.Goals.{After-put_byte, After-put_byte-s, After-put_bytes-q, After-put_decimal-p, After-put_holders-r, After-put_words-t, Start}
 
 abbrev words : Start → List Signed
 words s = readings s.args.k s.args.d s.args.words
@@ -45,7 +45,7 @@ text2 s = text1 s ++ ascii " open "
 
 part2 : (c : After-put_bytes-q) → Upto (goal.at.After-put_bytes-q c).Start 26 (text2 (goal.at.After-put_bytes-q c).Start) c.put_bytes-q.new.out c.put_bytes-q.result
 part2 c =
-    let b = (goal.at.After-put_bytes-q c).After-out-1 in
+    let b = (goal.at.After-put_bytes-q c).After-put_decimal-p in
     part-more (ascii " open ") 6 (omega arith) (omega (arith, c.requires)) (part1 b) c.put_bytes-q.ensures c.put_bytes-q.auto.out
 
 holders-short : (c : After-put_bytes-q) → length (holders_text (lowest (goal.at.After-put_bytes-q c).Start) c.args.wrong) ≤ 449
@@ -89,11 +89,8 @@ part6 c =
 pub put_decimal-p-requires : goal.put_decimal-p-requires
 put_decimal-p-requires c = omega (arith, c.requires, twenty c.args.number (omega arith))
 
--- LOST slice-aggregate-put-bytes
-slice-aggregate-put-bytes c = search rules
-
 pub put_bytes-q-requires : goal.put_bytes-q-requires
-put_bytes-q-requires c = part_room (ascii " open ") 6 (omega arith) (omega (arith, c.requires)) (part1 (goal.at.put_bytes-q-requires c).After-out-1)
+put_bytes-q-requires c = part_room (ascii " open ") 6 (omega arith) (omega (arith, c.requires)) (part1 (goal.at.put_bytes-q-requires c).After-put_decimal-p)
 
 pub put_holders-r-requires : goal.put_holders-r-requires
 put_holders-r-requires c =

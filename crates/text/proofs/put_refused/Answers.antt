@@ -41,9 +41,6 @@ part3 c =
     let b = (goal.at.After-put_byte c).After-put_decimal-q in
     part-more (ascii "\n") 1 (omega arith) (omega (arith, c.requires)) (part2 b) c.put_byte.ensures c.put_byte.auto.out
 
--- LOST slice-aggregate-put-bytes
-slice-aggregate-put-bytes c = search rules
-
 pub put_decimal-q-requires : goal.put_decimal-q-requires
 put_decimal-q-requires c = part_room (decimal c.args.n) 20 (twenty c.args.n (omega arith)) (omega (arith, c.requires)) (part1 (goal.at.put_decimal-q-requires c).After-put_bytes-p)
 

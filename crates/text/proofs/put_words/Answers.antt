@@ -32,8 +32,8 @@ abbrev rest : (l : At-loop-i) → List (List ℕ)
 rest l = drop (suc l.loop-i.i) (texts (goal.at.At-loop-i l).Start)
 
 text : (c : After-read_signed)
-    → let l = c.before.before in
-    joined (drop l.loop.i (texts l.before.before)) ≡ signed_text c.read-signed.result ++ after_commas (rest l)
+    → let l = (goal.at.After-read_signed c).At-loop-i in
+    joined (drop l.loop-i.i (texts (goal.at.At-loop-i l).Start)) ≡ signed_text c.read_signed.result ++ after_commas (rest l)
 text c =
     let l = (goal.at.After-read_signed c).At-loop-i in
     let s = (goal.at.At-loop-i l).Start in
@@ -44,8 +44,8 @@ text c =
 
 -- there is room for it, and for those after it
 room : (c : After-read_signed)
-    → let l = c.before.before in
-    l.loop.end + (length (signed_text c.read-signed.result) + length (after_commas (rest l))) ≤ length l.loop.out
+    → let l = (goal.at.After-read_signed c).At-loop-i in
+    l.loop-i.end + (length (signed_text c.read_signed.result) + length (after_commas (rest l))) ≤ length l.loop-i.out
 room c =
     let l = (goal.at.After-read_signed c).At-loop-i in
     let e = ap length (text c) ∙ length-append (signed_text c.read_signed.result) (after_commas (rest l)) in
@@ -53,9 +53,9 @@ room c =
 
 -- what is left to write once it is written
 written_one : (c : After-put_signed-end)
-    → let l = c.before.before.before in
-    let s = l.before.before in
-    Left s.args.out.now s.args.at (joined (texts s)) c.put-signed.new.0 c.put-signed.result (after_commas (rest l))
+    → let l = (goal.at.After-put_signed-end c).At-loop-i in
+    let s = (goal.at.At-loop-i l).Start in
+    Left s.args.out.now s.args.at (joined (texts s)) c.put_signed-end.new.out c.put_signed-end.result (after_commas (rest l))
 written_one c =
     let r = (goal.at.After-put_signed-end c).After-read_signed in
     let l = (goal.at.After-read_signed r).At-loop-i in
@@ -68,7 +68,7 @@ written_one c =
 
 -- a comma comes where words are left
 more : (c : Else-i-d)
-    → let l = c.before.before.before.before.before.before in
+    → let l = (goal.at.Else-i-d c).At-loop-i in
     after_commas (rest l) ≡ (44 ∷ []) ++ joined (rest l)
 more c =
     let l = (goal.at.Else-i-d c).At-loop-i in

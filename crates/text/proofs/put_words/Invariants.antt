@@ -19,7 +19,7 @@ use Rattle.words.proofs.read_signed.Reads as read-signed-reads
 use Rattle.text.proofs.put_words.Given as goal
 
 abbrev pub invariant-loop-i : goal.invariant-loop-i
-invariant-loop-i l =     (l.i < l.d) × (length l.out ≡ length l.initial.out) × Left l.initial.out l.at (joined (word_texts l.k l.d l.words)) l.out l.end (joined (drop l.i (word_texts l.k l.d l.words)))
+invariant-loop-i l = (l.i < l.d) × (length l.out ≡ length l.initial.out) × Left l.initial.out l.at (joined (word_texts l.k l.d l.words)) l.out l.end (joined (drop l.i (word_texts l.k l.d l.words)))
 
 abbrev pub decreases-loop-i : goal.decreases-loop-i
 decreases-loop-i l = l.d - l.i
