@@ -1,6 +1,5 @@
 -- `is_text_of`: the text is compared with what the job is written as in a room of its own. Assumes nothing.
 use Rattle.std.proofs.Common.{◌≡◌, length, take, sym, refl, ap, ◌∙◌, rules}
-use borrow.Author.Tests.{not-true, not-false}
 use Rattle.words.proofs.Tests.{and_yes, and_no}
 use Rattle.decimal.proofs.Written.{take-written}
 use Rattle.labelled.specs.JobText.{lines_of}
@@ -16,7 +15,7 @@ front c =
 
 pub returns-then-not-job_in_range : goal.returns-then-not-job_in_range
 unfolding is_text_of
-returns-then-not-job_in_range c = sym (and_no (job_in_range c.args.k c.args.job) _ (sym c.job_in_range.ensures ∙ not-true _ c.if-not-job_in_range.true))
+returns-then-not-job_in_range c = sym (and_no (job_in_range c.args.k c.args.job) _ (sym c.job_in_range.ensures ∙ c.if-not-job_in_range.true))
 
 pub slice_bounds-same_text-end : goal.slice_bounds-same_text-end
 slice_bounds-same_text-end c =
@@ -27,7 +26,7 @@ pub returns : goal.returns
 unfolding is_text_of
 returns c =
     let p = (goal.at.returns c).After-put_job-n in
-    let in-range = sym p.job_in_range.ensures ∙ not-false _ p.if-not-job_in_range.false in
+    let in-range = sym p.job_in_range.ensures ∙ p.if-not-job_in_range.false in
     c.same_text.ensures
     ∙ ap (same_text p.args.text.now) (front p)
     ∙ sym (and_yes (job_in_range p.args.k p.args.job) (same_text p.args.text.now (lines_of p.args.job)) in-range refl)

@@ -6,7 +6,7 @@ use Rattle.decimal.proofs.Written.{Part, wrote-line, part_room, part-more}
 use Rattle.labelled.specs.JobText.{line_with, lines_of}
 use Rattle.labelled.proofs.Lengths.{whole_length, fixed-length}
 use Rattle.labelled.proofs.put_job.Goals as goal
-use Rattle.labelled.proofs.put_job.Goals.{After-put_fixed, After-put_fixed-q, After-put_fixed-r, After-put_whole-p, After-put_whole-s, After-slice_known-1, After-slice_known-2-1, After-slice_known-3-1, After-slice_known-4-1, After-slice_known-5-1, Start}
+use Rattle.labelled.proofs.put_job.Goals.{After-put_fixed, After-put_fixed-q, After-put_fixed-r, After-put_whole-p, After-put_whole-s, Start}
 
 -- the five lines
 abbrev number : Start → Signed
@@ -55,71 +55,56 @@ part2 : (c : After-put_fixed-q) → let s = (goal.at.After-put_fixed-q c).Start 
 part2 c =
     let s = (goal.at.After-put_fixed-q c).Start in
     part-more (sphere s) 30 (sphere-short s) (omega (arith, s.requires))
-    (part1 (goal.at.After-put_fixed-q c).After-slice_known-2-1) c.put_fixed-q.ensures c.put_fixed-q.auto.out
+    (part1 (goal.at.After-put_fixed-q c).After-put_whole-p) c.put_fixed-q.ensures c.put_fixed-q.auto.out
 
 part3 : (c : After-put_fixed-r) → let s = (goal.at.After-put_fixed-r c).Start in
     Upto s 87 (job s ++ sphere s ++ cylinder s) c.put_fixed-r.new.out c.put_fixed-r.result
 part3 c =
     let s = (goal.at.After-put_fixed-r c).Start in
     part-more (cylinder s) 30 (cylinder-short s) (omega (arith, s.requires))
-    (part2 (goal.at.After-put_fixed-r c).After-slice_known-3-1) c.put_fixed-r.ensures c.put_fixed-r.auto.out
+    (part2 (goal.at.After-put_fixed-r c).After-put_fixed-q) c.put_fixed-r.ensures c.put_fixed-r.auto.out
 
 part4 : (c : After-put_whole-s) → let s = (goal.at.After-put_whole-s c).Start in
     Upto s 113 (job s ++ sphere s ++ cylinder s ++ axis s) c.put_whole-s.new.out c.put_whole-s.result
 part4 c =
     let s = (goal.at.After-put_whole-s c).Start in
     part-more (axis s) 26 (axis-short s) (omega (arith, s.requires))
-    (part3 (goal.at.After-put_whole-s c).After-slice_known-4-1) c.put_whole-s.ensures c.put_whole-s.auto.out
+    (part3 (goal.at.After-put_whole-s c).After-put_fixed-r) c.put_whole-s.ensures c.put_whole-s.auto.out
 
 part5 : (c : After-put_fixed) → let s = (goal.at.After-put_fixed c).Start in
     Upto s 146 (job s ++ sphere s ++ cylinder s ++ axis s ++ thickness s) c.put_fixed.new.out c.put_fixed.result
 part5 c =
     let s = (goal.at.After-put_fixed c).Start in
     part-more (thickness s) 33 (thickness-short s) (omega (arith, s.requires))
-    (part4 (goal.at.After-put_fixed c).After-slice_known-5-1) c.put_fixed.ensures c.put_fixed.auto.out
-
--- LOST slice-aggregate-put-whole
-slice-aggregate-put-whole c = search rules
+    (part4 (goal.at.After-put_fixed c).After-put_whole-s) c.put_fixed.ensures c.put_fixed.auto.out
 
 pub put_whole-p-requires : goal.put_whole-p-requires
 put_whole-p-requires c =
-    let s = (goal.at.put_whole-p-requires c).After-slice_known-1 in
+    let s = (goal.at.put_whole-p-requires c).Start in
     omega (arith, s.requires, job-short s)
-
--- LOST slice-aggregate-put-fixed
-slice-aggregate-put-fixed c = search rules
 
 pub put_fixed-q-requires : goal.put_fixed-q-requires
 put_fixed-q-requires c =
-    let p = (goal.at.put_fixed-q-requires c).After-slice_known-2-1 in
-    let s = (goal.at.After-slice_known-2-1 p).Start in
+    let p = (goal.at.put_fixed-q-requires c).After-put_whole-p in
+    let s = (goal.at.After-put_whole-p p).Start in
     part_room (sphere s) 30 (sphere-short s) (omega (arith, s.requires)) (part1 p)
-
--- LOST slice-aggregate-put-fixed-2
-slice-aggregate-put-fixed-2 c = search rules
 
 pub put_fixed-r-requires : goal.put_fixed-r-requires
 put_fixed-r-requires c =
-    let p = (goal.at.put_fixed-r-requires c).After-slice_known-3-1 in
-    let s = (goal.at.After-slice_known-3-1 p).Start in
+    let p = (goal.at.put_fixed-r-requires c).After-put_fixed-q in
+    let s = (goal.at.After-put_fixed-q p).Start in
     part_room (cylinder s) 30 (cylinder-short s) (omega (arith, s.requires)) (part2 p)
-
--- LOST slice-aggregate-put-whole-2
-slice-aggregate-put-whole-2 c = search rules
 
 pub put_whole-s-requires : goal.put_whole-s-requires
 put_whole-s-requires c =
-    let p = (goal.at.put_whole-s-requires c).After-slice_known-4-1 in
-    let s = (goal.at.After-slice_known-4-1 p).Start in
+    let p = (goal.at.put_whole-s-requires c).After-put_fixed-r in
+    let s = (goal.at.After-put_fixed-r p).Start in
     part_room (axis s) 26 (axis-short s) (omega (arith, s.requires)) (part3 p)
-
--- LOST slice-aggregate-put-fixed-3
-slice-aggregate-put-fixed-3 c = search rules
 
 pub put_fixed-requires : goal.put_fixed-requires
 put_fixed-requires c =
-    let p = (goal.at.put_fixed-requires c).After-slice_known-5-1 in
-    let s = (goal.at.After-slice_known-5-1 p).Start in
+    let p = (goal.at.put_fixed-requires c).After-put_whole-s in
+    let s = (goal.at.After-put_whole-s p).Start in
     part_room (thickness s) 33 (thickness-short s) (omega (arith, s.requires)) (part4 p)
 
 whole : (s : Start) → lines_of s.args.job ≡ job s ++ sphere s ++ cylinder s ++ axis s ++ thickness s

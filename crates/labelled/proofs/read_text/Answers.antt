@@ -1,6 +1,5 @@
 -- `read_text`: the numbers that are scanned, if the text is what they are written as. Assumes nothing.
 use Rattle.std.proofs.Common.{◌≡◌, ℕ, true, List, [], ◌∷◌, length, sym, ap, ◌∙◌, ap₂, arith, rules}
-use borrow.Author.Tests.{not-true, not-false}
 use Rattle.words.specs.Faults.{length_fault}
 use Rattle.words.specs.Refusal.{first, unless, kept, TEXT}
 use Rattle.words.proofs.Faults.{length-clear}
@@ -50,8 +49,7 @@ none c = sym (judged (goal.at.Else-fault-ne0 c).After-first-fault) ∙ c.if-faul
 keeps : (s : Start) (r : ℕ) → r ≡ F s → (r ≡ 0 → ⊥)
     → (r ≡ F s)
     × ((number s ≡ kept (F s) (number s) ((job s).number ∷ [])) × (words s ≡ kept (F s) (words s) (words_of s.args.p.k (job s))))
-keeps s r e n =
-    (
+keeps s r e n = (
   e,
   (
     sym (kept-some (F s) (number s) ((job s).number ∷ []) (λ z. n (e ∙ z))),
@@ -67,7 +65,7 @@ by-text c = by-ahead (goal.at.After-is_text_of c).Start ∙ first-none (A (goal.
 
 -- an accepted text
 accepted : (c : Else-not-is_text_of) → is_text c.args.p.k (text (goal.at.Else-not-is_text_of c).Start) ≡ true
-accepted c = sym (is-text (goal.at.Else-not-is_text_of c).After-is_text_of) ∙ not-false _ c.if-not-is_text_of.false
+accepted c = sym (is-text (goal.at.Else-not-is_text_of c).After-is_text_of) ∙ c.if-not-is_text_of.false
 
 -- the outputs
 lengths : (c : Else-fault-ne0) → let s = (goal.at.Else-fault-ne0 c).Start in first (length_fault 1 (length (number s))) (length_fault 4 (length (words s))) ≡ 0
@@ -83,7 +81,8 @@ pub returns-then-fault-ne0 : goal.returns-then-fault-ne0
 returns-then-fault-ne0 c =
     let s = (goal.at.returns-then-fault-ne0 c).Start in
     let e = judged (goal.at.returns-then-fault-ne0 c).After-first-fault in
-    keeps s _ (e ∙ sym (by-ahead s ∙ first_some (A s) _ (λ z. c.if-fault-ne0.true (e ∙ z)))) c.if-fault-ne0.true
+    let k = keeps s _ (e ∙ sym (by-ahead s ∙ first_some (A s) _ (λ z. c.if-fault-ne0.true (e ∙ z)))) c.if-fault-ne0.true in
+    record { fault = k.0; number = k.1.0; words = k.1.1 }
 
 pub is_text_of-requires : goal.is_text_of-requires
 is_text_of-requires c =
@@ -96,8 +95,9 @@ pub returns-then-not-is_text_of : goal.returns-then-not-is_text_of
 returns-then-not-is_text_of c =
     let j = (goal.at.returns-then-not-is_text_of c).After-is_text_of in
     let s = (goal.at.After-is_text_of j).Start in
-    let f = by-text j ∙ unless-no (is_text s.args.p.k (text s)) TEXT (sym (is-text j) ∙ not-true _ c.if-not-is_text_of.true) in
-    keeps s TEXT (sym f) (λ (q : 11 ≡ 0). omega arith)
+    let f = by-text j ∙ unless-no (is_text s.args.p.k (text s)) TEXT (sym (is-text j) ∙ c.if-not-is_text_of.true) in
+    let k = keeps s TEXT (sym f) (λ (q : 11 ≡ 0). omega arith) in
+    record { fault = k.0; number = k.1.0; words = k.1.1 }
 
 pub bounds-number-0 : goal.bounds-number-0
 bounds-number-0 c = let n = one (goal.at.bounds-number-0 c).Else-fault-ne0 in search rules
@@ -110,7 +110,7 @@ put_words-requires c =
     let p = f.args.p in
     let b = lens-clear p (first-left (lens_fault p) _ (none f)) in (
       (b.low, b.high),
-      and_left (job_in_range p.k e.scan-job.result) _ (sym e.is_text_of.ensures ∙ not-false _ e.if-not-is_text_of.false),
+      and_left (job_in_range p.k e.scan-job.result) _ (sym e.is_text_of.ensures ∙ e.if-not-is_text_of.false),
       four f,
     )
 
@@ -121,12 +121,12 @@ returns c =
     let s = (goal.at.After-is_text_of j).Start in
     let k = s.args.p.k in
     let f = by-text j ∙ unless-yes (is_text k (text s)) TEXT (accepted e) in
-    let q = j.scan-job.ensures in (
-      sym f,
-      (
-        set_single (number s) _ (one (goal.at.After-is_text_of j).Else-fault-ne0)
-            ∙ ap (λ (x : LensJob). x.number ∷ []) q
-            ∙ sym (kept-none (F s) (number s) ((job s).number ∷ []) f),
-        c.put_words.ensures ∙ ap (words_of k) q ∙ sym (kept-none (F s) (words s) (words_of k (job s)) f),
-      ),
-    )
+    let q = j.scan-job.ensures in
+    record {
+      fault = sym f;
+      number =
+          set_single (number s) _ (one (goal.at.After-is_text_of j).Else-fault-ne0)
+          ∙ ap (λ (x : LensJob). x.number ∷ []) q
+          ∙ sym (kept-none (F s) (number s) ((job s).number ∷ []) f);
+      words = c.put_words.ensures ∙ ap (words_of k) q ∙ sym (kept-none (F s) (words s) (words_of k (job s)) f);
+    }

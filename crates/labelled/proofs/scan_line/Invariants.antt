@@ -5,7 +5,7 @@ use Rattle.labelled.proofs.Steps.{number-end, after-end, number-stop, after_stop
 use Rattle.labelled.proofs.scan_line.Given as goal
 
 abbrev pub invariant-loop-i : goal.invariant-loop-i
-invariant-loop-i l =     (l.i ≤ length l.text) × (number_from l.value (drop l.i l.text) ≡ number_from nothing (drop l.at l.text)) × (after_line (drop l.i l.text) ≡ after_line (drop l.at l.text))
+invariant-loop-i l = (l.i ≤ length l.text) × (number_from l.value (drop l.i l.text) ≡ number_from nothing (drop l.at l.text)) × (after_line (drop l.i l.text) ≡ after_line (drop l.at l.text))
 
 abbrev pub decreases-loop-i : goal.decreases-loop-i
 decreases-loop-i l = length l.text - l.i
