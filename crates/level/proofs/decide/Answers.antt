@@ -4,7 +4,6 @@ use borrow.Author.Rules.{rules}
 use lib.Count.{ones-le}
 use Rattle.level.proofs.Decision.{rows-length, numbered, holders-length, decides-few, decides-found, decides-none}
 use Rattle.level.proofs.decide.Goals as goal
-use Rattle.level.proofs.decide.Goals.{After-gather-n, After-holder_set-wrong, After-locate-trusted, After-points-x, After-slice-y}
 
 pub slice-y-requires : goal.slice-y-requires
 slice-y-requires c =
@@ -25,14 +24,11 @@ points-x-requires c =
 
 pub returns-then-n-t : goal.returns-then-n-t
 returns-then-n-t c =
-    let g = (goal.at.returns-then-n-t c).After-gather-n in
-    let l = (goal.at.After-gather-n g).After-locate-trusted in
-    let x = (goal.at.After-locate-trusted l).After-points-x in
-    let y = (goal.at.After-points-x x).After-slice-y in
-    let a = y.args in
-    decides-few a.d (omega arith) (omega arith) a.v a.t a.e a.m a.hs.now a.rest.now (omega arith) y.requires.4 y.requires.5
-    y.requires.6 _ y.slice-y.ensures.0 y.slice-y.ensures.1 _ x.points-x.ensures _ l.locate-trusted.ensures _ _
-    g.gather-n.ensures c.if-n-t.true
+    let a = c.args in
+    let r = decides-few a.d (omega arith) (omega arith) a.v a.t a.e a.m a.hs.now a.rest.now (omega arith) c.requires.4 c.requires.5
+    c.requires.6 _ c.slice-y.ensures.0 c.slice-y.ensures.1 _ c.points-x.ensures _ c.locate-trusted.ensures _ _
+    c.gather-n.ensures c.if-n-t.true in
+    record { level = r.0; number = r.1 }
 
 pub holder_set-wrong-requires : goal.holder_set-wrong-requires
 holder_set-wrong-requires c =
@@ -47,26 +43,18 @@ overflow_cast-wrong c = omega (arith, ones-le 64 c.holder_set-wrong.result (omeg
 
 pub returns-then-wrong-e : goal.returns-then-wrong-e
 returns-then-wrong-e c =
-    let o = (goal.at.returns-then-wrong-e c).After-holder_set-wrong in
-    let g = (goal.at.After-holder_set-wrong o).After-gather-n in
-    let l = (goal.at.After-gather-n g).After-locate-trusted in
-    let x = (goal.at.After-locate-trusted l).After-points-x in
-    let y = (goal.at.After-points-x x).After-slice-y in
-    let a = y.args in
-    decides-found a.d (omega arith) (omega arith) a.v a.t a.e a.m a.hs.now a.rest.now (omega arith) y.requires.4 y.requires.5
-    y.requires.6 _ y.slice-y.ensures.0 y.slice-y.ensures.1 _ x.points-x.ensures _ l.locate-trusted.ensures _ _
-    g.gather-n.ensures (omega (arith, o.if-n-t.false)) _
-    o.support.ensures _ o.holder_set-wrong.ensures c.if-wrong-e.true
+    let a = c.args in
+    let r = decides-found a.d (omega arith) (omega arith) a.v a.t a.e a.m a.hs.now a.rest.now (omega arith) c.requires.4 c.requires.5
+    c.requires.6 _ c.slice-y.ensures.0 c.slice-y.ensures.1 _ c.points-x.ensures _ c.locate-trusted.ensures _ _
+    c.gather-n.ensures (omega (arith, c.if-n-t.false)) _
+    c.support.ensures _ c.holder_set-wrong.ensures c.if-wrong-e.true in
+    record { level = r.0; number = r.1 }
 
 pub returns : goal.returns
 returns c =
-    let o = (goal.at.returns c).After-holder_set-wrong in
-    let g = (goal.at.After-holder_set-wrong o).After-gather-n in
-    let l = (goal.at.After-gather-n g).After-locate-trusted in
-    let x = (goal.at.After-locate-trusted l).After-points-x in
-    let y = (goal.at.After-points-x x).After-slice-y in
-    let a = y.args in
-    decides-none a.d (omega arith) (omega arith) a.v a.t a.e a.m a.hs.now a.rest.now (omega arith) y.requires.4 y.requires.5
-    y.requires.6 _ y.slice-y.ensures.0 y.slice-y.ensures.1 _ x.points-x.ensures _ l.locate-trusted.ensures _ _
-    g.gather-n.ensures (omega (arith, o.if-n-t.false)) _
-    o.support.ensures _ o.holder_set-wrong.ensures (omega (arith, c.if-wrong-e.false))
+    let a = c.args in
+    let r = decides-none a.d (omega arith) (omega arith) a.v a.t a.e a.m a.hs.now a.rest.now (omega arith) c.requires.4 c.requires.5
+    c.requires.6 _ c.slice-y.ensures.0 c.slice-y.ensures.1 _ c.points-x.ensures _ c.locate-trusted.ensures _ _
+    c.gather-n.ensures (omega (arith, c.if-n-t.false)) _
+    c.support.ensures _ c.holder_set-wrong.ensures (omega (arith, c.if-wrong-e.false)) in
+    record { level = r.0; number = r.1 }

@@ -8,7 +8,7 @@ use Rattle.level.proofs.Turns.{gather-start, gather-turn, gather-end}
 use Rattle.level.proofs.gather.Given as goal
 
 abbrev pub invariant-loop-i : goal.invariant-loop-i
-invariant-loop-i l =     (l.i ≤ l.m) × (newton_of l.n l.gap l.nodal ≡ gather_lanes l.d l.xs l.t l.trusted (newton_of l.initial.n l.initial.gap l.initial.nodal) l.m (l.m - l.i))
+invariant-loop-i l = (l.i ≤ l.m) × (newton_of l.n l.gap l.nodal ≡ gather_lanes l.d l.xs l.t l.trusted (newton_of l.initial.n l.initial.gap l.initial.nodal) l.m (l.m - l.i))
 
 abbrev pub decreases-loop-i : goal.decreases-loop-i
 decreases-loop-i l = l.i

@@ -9,7 +9,7 @@ use Rattle.level.proofs.ResidueRows.{written, rest-start, rest-turn, rest_end}
 use Rattle.level.proofs.residues.Given as goal
 
 abbrev pub invariant-loop-i : goal.invariant-loop-i
-invariant-loop-i l =     (suc l.t ≤ l.i) × (l.i ≤ l.m) × (length l.rest ≡ 64) × (l.rest ≡ written l.k l.d (coefs l.d (suc l.t) l.p) (suc l.t) l.m l.hs l.ys l.initial.rest l.i)
+invariant-loop-i l = (suc l.t ≤ l.i) × (l.i ≤ l.m) × (length l.rest ≡ 64) × (l.rest ≡ written l.k l.d (coefs l.d (suc l.t) l.p) (suc l.t) l.m l.hs l.ys l.initial.rest l.i)
 
 abbrev pub decreases-loop-i : goal.decreases-loop-i
 decreases-loop-i l = l.m - l.i
