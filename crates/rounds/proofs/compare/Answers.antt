@@ -19,7 +19,7 @@ use Rattle.rounds.proofs.Lowest.{bits-gap}
 use Rattle.rounds.proofs.Collected.{set-start, holder-low, holder-high, set_same, set_more, set_all}
 use Rattle.rounds.proofs.Compared.{differs_false, differs_true, bits-start, bits-more, zero_same, bits-all}
 use Rattle.rounds.proofs.compare.Goals as goal
-use Rattle.rounds.proofs.compare.Goals.{After-gap-b, At-loop-i, In-loop-i, Then-b-ne0}
+use Rattle.rounds.proofs.compare.Goals.{After-gap-b, At-loop-i, Then-b-ne0}
 
 most : 6 ≤ 6
 most = omega arith
@@ -28,13 +28,13 @@ most = omega arith
 abbrev row : At-loop-i → Element
 row l = get_or l.args.rest.now (l.loop-i.i - 1) []
 
-six : (l : At-loop-i) → 0 < l.loop.i → length (row l) ≡ 6
+six : (l : At-loop-i) → 0 < l.loop-i.i → length (row l) ≡ 6
 six l h = shaped_row l.args.rest.now (l.loop-i.i - 1) l.requires.3 (omega (arith, l.loop-i.invariant.1, l.requires.1))
 
-whole : (l : At-loop-i) → 0 < l.loop.i → take 6 (row l) ≡ row l
+whole : (l : At-loop-i) → 0 < l.loop-i.i → take 6 (row l) ≡ row l
 whole l h = take_all 6 (row l) (le_of_eq (six l h))
 
-bits_at : (l : At-loop-i) → 0 < l.loop.i → gap (row l) (replicate 6 0) ≡ bits_of (take 6 (row l))
+bits_at : (l : At-loop-i) → 0 < l.loop-i.i → gap (row l) (replicate 6 0) ≡ bits_of (take 6 (row l))
 bits_at l h = ap (λ n. gap (row l) (replicate n 0)) (sym (six l h)) ∙ bits-gap (row l) ∙ ap bits_of (sym (whole l h))
 
 pub loop-i-init : goal.loop-i-init
@@ -48,20 +48,20 @@ loop-i-init c =
 
 pub overflow_sub-set : goal.overflow_sub-set
 overflow_sub-set c =
-    let l = (goal.at.overflow_sub-set c).In-loop-i in
+    let l = (goal.at.overflow_sub-set c).At-loop-i in
     let a = l.args in
     omega (arith, holder-low 6 most (differs 64 6 []) a.m a.hs.now a.rest.now l.requires.2 l.loop-i.i (omega arith) l.loop-i.invariant.1)
 
 pub overflow_shl-set : goal.overflow_shl-set
 overflow_shl-set c =
-    let l = (goal.at.overflow_shl-set c).In-loop-i in
+    let l = (goal.at.overflow_shl-set c).At-loop-i in
     let a = l.args in
     omega (arith, holder-high 6 most (differs 64 6 []) a.m a.hs.now a.rest.now l.requires.2 l.loop-i.i (omega arith) l.loop-i.invariant.1)
 
 pub loop-i-preserved-then-b-ne0 : goal.loop-i-preserved-then-b-ne0
 loop-i-preserved-then-b-ne0 c =
     let g = (goal.at.loop-i-preserved-then-b-ne0 c).Then-b-ne0 in
-    let l = (goal.at.Then-b-ne0 g).In-loop-i in
+    let l = (goal.at.Then-b-ne0 g).At-loop-i in
     let a = l.args in
     let h = a.hs.now in
     let r = a.rest.now in

@@ -19,7 +19,7 @@ use Rattle.rounds.specs.declared.Found.{Found}
 use Rattle.rounds.proofs.Left.{Left, rest-left}
 use Rattle.rounds.proofs.LevelFound.{ones-of, lowest-at, found-few, found-field, told}
 use Rattle.rounds.proofs.decode_level.Goals as goal
-use Rattle.rounds.proofs.decode_level.Goals.{After-compare-c, After-decide-got, After-residues, After-residues-arg-1, After-struct_known-1, Else-c-e, Start}
+use Rattle.rounds.proofs.decode_level.Goals.{After-compare-c, After-decide-got, After-residues, Else-c-e, Start}
 
 abbrev poly : Start → Polynomial
 poly s = coefs s.args.d (suc s.args.t) s.args.p
@@ -48,18 +48,18 @@ left-of c =
 
 pub compare-c-requires : goal.compare-c-requires
 compare-c-requires c =
-    let b = (goal.at.compare-c-requires c).After-residues-arg-1 in
+    let b = (goal.at.compare-c-requires c).After-residues in
     let p = b.requires in
     let o = left-of b in
     (omega (arith, p.4), p.3, o.holders-six, o.shaped, rw (add-one b.args.t) o.first)
 
 set_is : (c : After-compare-c) → (let s = (goal.at.After-compare-c c).Start in c.compare-c.result.set ≡ error_set s.args.k s.args.d (poly s) (shares s))
-set_is c = c.compare-c.ensures.0 ∙ (left-of (goal.at.After-compare-c c).After-residues-arg-1).set
+set_is c = c.compare-c.ensures.0 ∙ (left-of (goal.at.After-compare-c c).After-residues).set
 
 bits_is : (c : After-compare-c) →
     (let s = (goal.at.After-compare-c c).Start in
     c.compare-c.result.bits ≡ bits_of_all (map (left s.args.k s.args.d (poly s)) (shares s)))
-bits_is c = c.compare-c.ensures.1 ∙ (left-of (goal.at.After-compare-c c).After-residues-arg-1).bits
+bits_is c = c.compare-c.ensures.1 ∙ (left-of (goal.at.After-compare-c c).After-residues).bits
 
 count-is : (c : After-compare-c) → (let s = (goal.at.After-compare-c c).Start in ones c.compare-c.result.set ≡ errors s.args.k s.args.d (poly s) (shares s))
 count-is c = let s = (goal.at.After-compare-c c).Start in ap ones (set_is c) ∙ ones-of s.args.k s.args.d (poly s) (shares s) s.requires.5
@@ -71,12 +71,12 @@ pub returns-then-c-e : goal.returns-then-c-e
 returns-then-c-e c =
     let f = (goal.at.returns-then-c-e c).After-compare-c in
     let a = f.args in
-    let o = left-of (goal.at.After-compare-c f).After-residues-arg-1 in (
-      told a.k a.d a.t a.e (poly (goal.at.After-compare-c f).Start) (shares (goal.at.After-compare-c f).Start) _
+    let o = left-of (goal.at.After-compare-c f).After-residues in record {
+      found = told a.k a.d a.t a.e (poly (goal.at.After-compare-c f).Start) (shares (goal.at.After-compare-c f).Start) _
           (found-few a.k a.d a.t a.e (poly (goal.at.After-compare-c f).Start) (shares (goal.at.After-compare-c f).Start) f.compare-c.result.set (set_is f)
-          (rw (← count-is f) c.if-c-e.true)),
-      o.shaped,
-    )
+          (rw (← count-is f) c.if-c-e.true));
+      rest = o.shaped;
+    }
 
 pub overflow_cast-v : goal.overflow_cast-v
 overflow_cast-v c = omega (arith, trailing_le 64 c.compare-c.result.bits)
@@ -94,20 +94,20 @@ low_bit c =
 
 pub decide-got-requires : goal.decide-got-requires
 decide-got-requires c =
-    let f = (goal.at.decide-got-requires c).After-struct_known-1 in
+    let f = (goal.at.decide-got-requires c).Else-c-e in
     let p = f.requires in
-    let o = left-of (goal.at.After-struct_known-1 f).After-residues-arg-1 in
+    let o = left-of (goal.at.Else-c-e f).After-residues in
     (p.1, low_bit f, p.2, p.3, o.holders, o.sized, omega (arith, p.4))
 
 found : (c : After-decide-got) →
     (let s = (goal.at.After-decide-got c).Start in
     named c.decide-got.result ≡ level_found s.args.k s.args.d s.args.t s.args.e (poly s) (shares s))
 found c =
-    let f = (goal.at.After-decide-got c).After-struct_known-1 in
-    let g = (goal.at.After-struct_known-1 f).After-compare-c in
+    let f = (goal.at.After-decide-got c).Else-c-e in
+    let g = (goal.at.Else-c-e f).After-compare-c in
     let s = (goal.at.After-compare-c g).Start in
     let a = s.args in
-    let b = (goal.at.After-compare-c g).After-residues-arg-1 in
+    let b = (goal.at.After-compare-c g).After-residues in
     found-field a.k a.d a.t a.e (poly s) (shares s) (far f) (shares_of a.d a.m a.hs.now (rows b)) (left-of b).is
     g.compare-c.result.bits (bits_is g) c.decide-got.result c.decide-got.ensures.level
 
@@ -123,11 +123,11 @@ answers c =
 pub returns-in_default : goal.returns-in_default
 returns-in_default c =
     let g = (goal.at.returns-in_default c).After-decide-got in
-    let o = left-of (goal.at.After-decide-got g).After-residues-arg-1 in
-    (answers g _ (rw c.in_default.is at (found g)), o.shaped)
+    let o = left-of (goal.at.After-decide-got g).After-residues in
+    record { found = answers g _ (rw c.in_default.is at (found g)); rest = o.shaped }
 
 pub returns : goal.returns
 returns c =
     let g = (goal.at.returns c).After-decide-got in
-    let o = left-of (goal.at.After-decide-got g).After-residues-arg-1 in
-    (answers g _ (rw c.in-Codeword.is at (found g)), o.shaped)
+    let o = left-of (goal.at.After-decide-got g).After-residues in
+    record { found = answers g _ (rw c.in-Codeword.is at (found g)); rest = o.shaped }

@@ -12,7 +12,7 @@ use Rattle.rounds.proofs.Interpolated.{Passed, interpolate-start, interpolate-tu
 use Rattle.rounds.proofs.interpolate.Given as goal
 
 abbrev pub invariant-loop-i : goal.invariant-loop-i
-invariant-loop-i l =     (l.i ≤ l.t + 1) × Shaped l.q × Shaped l.nodal × ((h : 1 ≤ l.k) (dl : 2 ≤ l.d) (dh : l.d ≤ 6) → Passed l.k l.d h dl dh l.t l.hs l.ys l.i l.q l.nodal)
+invariant-loop-i l = (l.i ≤ l.t + 1) × Shaped l.q × Shaped l.nodal × ((h : 1 ≤ l.k) (dl : 2 ≤ l.d) (dh : l.d ≤ 6) → Passed l.k l.d h dl dh l.t l.hs l.ys l.i l.q l.nodal)
 
 abbrev pub decreases-loop-i : goal.decreases-loop-i
 decreases-loop-i l = l.i

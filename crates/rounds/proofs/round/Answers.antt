@@ -49,4 +49,4 @@ returns c =
     let a = c.args in
     let e : coefs a.d (suc a.t) c.copy_rows.new.p ≡ coefs a.d (suc a.t) c.interpolate.new.q =
     ap (map (take a.d)) (rw (add-one a.t) at c.copy_rows.ensures.0) in
-    (rw e c.interpolate.ensures.0, (rw e c.decode_level-found.ensures.found.0, c.copy_rows.ensures.1))
+    record { through = rw e c.interpolate.ensures.0; found = rw e c.decode_level-found.ensures.found.0; shaped = c.copy_rows.ensures.1 }
