@@ -9,7 +9,7 @@ use Rattle.codewords.specs.Residue.{without}
 use Rattle.level.specs.Shares.{shares_from, shares_of}
 use Rattle.decoder.proofs.Dropped.{copy_start, copy-turn, drop-end}
 use Rattle.decoder.proofs.copy_others.Goals as goal
-use Rattle.decoder.proofs.copy_others.Goals.{After-way_told-1, At-loop-i}
+use Rattle.decoder.proofs.copy_others.Goals.{At-loop-i}
 
 pub loop-i-init : goal.loop-i-init
 loop-i-init c =
@@ -17,15 +17,15 @@ loop-i-init c =
     (omega arith, omega arith, c.requires.3, c.requires.4, λ d. copy_start d a.w a.hs.now a.ys.now a.m a.holders.now a.shares.now)
 
 -- a holder's bit is one of a word's
-range : (l : At-loop-i) → l.loop.i < l.before.args.m →
-    (1 ≤ get_or l.before.args.hs.now l.loop.i 0) × (get_or l.before.args.hs.now l.loop.i 0 ≤ 63)
+range : (l : At-loop-i) → l.loop-i.i < l.args.m →
+    (1 ≤ get_or l.args.hs.now l.loop-i.i 0) × (get_or l.args.hs.now l.loop-i.i 0 ≤ 63)
 range l h = l.requires.5 l.loop-i.i h
 
 pub overflow_sub-j : goal.overflow_sub-j
-overflow_sub-j c = (range (goal.at.overflow_sub-j c).After-way_told-1 (omega arith)).0
+overflow_sub-j c = (range (goal.at.overflow_sub-j c).At-loop-i (omega arith)).0
 
 pub overflow_shr-j : goal.overflow_shr-j
-overflow_shr-j c = omega (arith, (range (goal.at.overflow_shr-j c).After-way_told-1 (omega arith)).1)
+overflow_shr-j c = omega (arith, (range (goal.at.overflow_shr-j c).At-loop-i (omega arith)).1)
 
 pub loop-i-preserved : goal.loop-i-preserved
 loop-i-preserved c =

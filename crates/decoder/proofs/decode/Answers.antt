@@ -33,12 +33,12 @@ enough : (c : Else-m-p-2) → c.args.p.t + 1 + 2 * c.args.e ≤ c.args.m
 enough c = omega (arith, c.if-m-p-2.false, c.if-m-p.false)
 
 pub returns-then-m-p : goal.returns-then-m-p
-returns-then-m-p c = let s = (goal.at.returns-then-m-p c).Start in rw (few s (omega (arith, c.if-m-p.true))) (refl, (refl, s.requires.7))
+returns-then-m-p c = let s = (goal.at.returns-then-m-p c).Start in rw (few s (omega (arith, c.if-m-p.true))) (record { opening = refl; wrong = refl; shaped = s.requires.7 })
 
 pub returns-then-m-p-2 : goal.returns-then-m-p-2
 returns-then-m-p-2 c =
     let s = (goal.at.returns-then-m-p-2 c).Start in
-    rw (few s (omega (arith, c.if-m-p.false, c.if-m-p-2.true))) (refl, (refl, s.requires.7))
+    rw (few s (omega (arith, c.if-m-p.false, c.if-m-p-2.true))) (record { opening = refl; wrong = refl; shaped = s.requires.7 })
 
 -- what both searches ask
 asks : (c : Else-m-p-2) →

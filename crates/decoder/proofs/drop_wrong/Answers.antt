@@ -9,7 +9,7 @@ use Rattle.codewords.specs.Residue.{without}
 use Rattle.level.specs.Shares.{shares_from, shares_of}
 use Rattle.decoder.proofs.Dropped.{drop-start, holder-range, drop-same, drop-turn, drop-end}
 use Rattle.decoder.proofs.drop_wrong.Goals as goal
-use Rattle.decoder.proofs.drop_wrong.Goals.{At-loop-i, In-loop-i}
+use Rattle.decoder.proofs.drop_wrong.Goals.{At-loop-i}
 
 pub loop-i-init : goal.loop-i-init
 loop-i-init c =
@@ -17,8 +17,8 @@ loop-i-init c =
     (omega arith, omega arith, c.requires.1, c.requires.2, λ d. refl, λ d. drop-start d a.w a.hs.now a.ys.now a.m)
 
 -- a holder's bit is one of a word's
-range : (l : At-loop-i) → l.loop.i < l.before.args.m →
-    (1 ≤ get_or l.loop.hs l.loop.i 0) × (get_or l.loop.hs l.loop.i 0 ≤ 63)
+range : (l : At-loop-i) → l.loop-i.i < l.args.m →
+    (1 ≤ get_or l.loop-i.hs l.loop-i.i 0) × (get_or l.loop-i.hs l.loop-i.i 0 ≤ 63)
 range l h =
     let a = l.args in
     holder-range 0 a.w a.hs.now a.ys.now a.m l.loop-i.hs l.loop-i.ys l.loop-i.i h (l.loop-i.invariant.4 0)
@@ -26,17 +26,17 @@ range l h =
 
 pub overflow_sub-j : goal.overflow_sub-j
 overflow_sub-j c =
-    let l = (goal.at.overflow_sub-j c).In-loop-i in
+    let l = (goal.at.overflow_sub-j c).At-loop-i in
     (range l (omega arith)).0
 
 pub overflow_shr-j : goal.overflow_shr-j
 overflow_shr-j c =
-    let l = (goal.at.overflow_shr-j c).In-loop-i in
+    let l = (goal.at.overflow_shr-j c).At-loop-i in
     omega (arith, (range l (omega arith)).1)
 
 pub loop-i-preserved : goal.loop-i-preserved
 loop-i-preserved c =
-    let l = (goal.at.loop-i-preserved c).In-loop-i in
+    let l = (goal.at.loop-i-preserved c).At-loop-i in
     let a = l.args in
     let hs = l.loop-i.hs in
     let ys = l.loop-i.ys in

@@ -23,13 +23,12 @@ single (x ∷ y ∷ s) w e = absurd (suc-ne-zero (length s) (suc_inj e))
 pub returns-then-opened-ne0 : goal.returns-then-opened-ne0
 returns-then-opened-ne0 c =
     let a = c.args in
-    let f = c.if-opened-ne0.true in (
-      refl,
-      (
-        sym (kept-some a.opened.fault a.out.now _ f),
-        (sym (kept-some a.opened.fault a.wrong.now _ f), sym (kept-some a.opened.fault a.lowest.now _ f)),
-      ),
-    )
+    let f = c.if-opened-ne0.true in record {
+      fault = refl;
+      out = sym (kept-some a.opened.fault a.out.now _ f);
+      wrong = sym (kept-some a.opened.fault a.wrong.now _ f);
+      lowest = sym (kept-some a.opened.fault a.lowest.now _ f);
+    }
 
 pub store-requires : goal.store-requires
 store-requires c =
@@ -46,13 +45,9 @@ returns c =
     let l = (goal.at.returns c).After-lowest_bits in
     let t = (goal.at.After-lowest_bits l).After-store in
     let a = t.args in
-    let f = t.if-opened-ne0.false in (
-      sym f,
-      (
-        t.store.ensures ∙ over a.p.d a.out.now (get_or a.rows.now 0 []) t.requires.4 ∙ sym (kept-none a.opened.fault a.out.now _ f),
-        (
-          single a.wrong.now a.opened.wrong t.requires.5 ∙ sym (kept-none a.opened.fault a.wrong.now _ f),
-          l.lowest_bits.ensures ∙ sym (kept-none a.opened.fault a.lowest.now _ f),
-        ),
-      ),
-    )
+    let f = t.if-opened-ne0.false in record {
+      fault = sym f;
+      out = t.store.ensures ∙ over a.p.d a.out.now (get_or a.rows.now 0 []) t.requires.4 ∙ sym (kept-none a.opened.fault a.out.now _ f);
+      wrong = single a.wrong.now a.opened.wrong t.requires.5 ∙ sym (kept-none a.opened.fault a.wrong.now _ f);
+      lowest = l.lowest_bits.ensures ∙ sym (kept-none a.opened.fault a.lowest.now _ f);
+    }

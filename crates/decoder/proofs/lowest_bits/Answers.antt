@@ -13,7 +13,7 @@ use Rattle.level.specs.Shares.{shares_from, shares_of}
 use Rattle.level.proofs.Shares.{from_end}
 use Rattle.decoder.proofs.Positions.{ordered-holders, low-degree, positions-start, nobody, holder_in, put_in, left_out}
 use Rattle.decoder.proofs.lowest_bits.Goals as goal
-use Rattle.decoder.proofs.lowest_bits.Goals.{After-clear_positions, At-loop-i, In-loop-i, Start}
+use Rattle.decoder.proofs.lowest_bits.Goals.{After-clear_positions, At-loop-i, Start}
 
 -- the polynomial and the shares
 abbrev poly : Start → Polynomial
@@ -29,19 +29,16 @@ holders : (s : Start) → Holders s.args.p.d (shares s)
 holders s = ordered-holders s.args.p (range s) (shares s) s.requires.2
 
 -- at the head of the loop
-abbrev Head : Type 0
-Head = tie.At-loop invariant-loop decreases-loop
+abbrev S : At-loop-i → Start
+S l = (goal.at.At-loop-i l).Start
 
-abbrev S : Head → Start
-S l = l.before.before.before.before.before.before.before
-
-named : (l : Head) → 0 < l.loop.i →
-    (1 ≤ get_or (S l).args.holders.now (l.loop.i - 1) 0) × (get_or (S l).args.holders.now (l.loop.i - 1) 0 ≤ 63)
+named : (l : At-loop-i) → 0 < l.loop-i.i →
+    (1 ≤ get_or (S l).args.holders.now (l.loop-i.i - 1) 0) × (get_or (S l).args.holders.now (l.loop-i.i - 1) 0 ≤ 63)
 named l h =
     let s = S l in
     let a = s.args in
-    holder_in a.p.d (range s).d-high a.p.k (poly s) a.m a.holders.now a.shares.now (holders s) a.wrong s.pre.5 l.loop.i h
-    l.loop.inv.0
+    holder_in a.p.d (range s).d-high a.p.k (poly s) a.m a.holders.now a.shares.now (holders s) a.wrong s.requires.5 l.loop-i.i h
+    l.loop-i.invariant.0
 
 pub returns-then-wrong-eq0 : goal.returns-then-wrong-eq0
 returns-then-wrong-eq0 c =
@@ -62,45 +59,45 @@ loop-i-init c =
     )
 
 pub overflow_sub-x : goal.overflow_sub-x
-overflow_sub-x c = (named (goal.at.overflow_sub-x c).In-loop-i (omega arith)).0
+overflow_sub-x c = (named (goal.at.overflow_sub-x c).At-loop-i (omega arith)).0
 
 pub overflow_shr-wrong : goal.overflow_shr-wrong
-overflow_shr-wrong c = omega (arith, named (goal.at.overflow_shr-wrong c).In-loop-i (omega arith))
+overflow_shr-wrong c = omega (arith, named (goal.at.overflow_shr-wrong c).At-loop-i (omega arith))
 
 pub position_of-requires : goal.position_of-requires
 position_of-requires c =
-    let s = S (goal.at.position_of-requires c).In-loop-i in
+    let s = S (goal.at.position_of-requires c).At-loop-i in
     let r = range s in
-    ((r.k-low, r.k-high), (r.d-low, r.d-high), low-degree s.args.p r, s.pre.3)
+    ((r.k-low, r.k-high), (r.d-low, r.d-high), low-degree s.args.p r, s.requires.3)
 
 pub overflow_sub-lowest : goal.overflow_sub-lowest
-overflow_sub-lowest c = (named (goal.at.overflow_sub-lowest c).In-loop-i (omega arith)).0
+overflow_sub-lowest c = (named (goal.at.overflow_sub-lowest c).At-loop-i (omega arith)).0
 
 pub bounds-lowest-x : goal.bounds-lowest-x
 bounds-lowest-x c =
-    let l = (goal.at.bounds-lowest-x c).In-loop-i in
+    let l = (goal.at.bounds-lowest-x c).At-loop-i in
     omega (arith, named l (omega arith), l.loop-i.invariant.1)
 
 pub loop-i-preserved-then-wrong-x-eq1 : goal.loop-i-preserved-then-wrong-x-eq1
 loop-i-preserved-then-wrong-x-eq1 c =
-    let l = (goal.at.loop-i-preserved-then-wrong-x-eq1 c).In-loop-i in
+    let l = (goal.at.loop-i-preserved-then-wrong-x-eq1 c).At-loop-i in
     let s = S l in
     let a = s.args in (
       omega (arith, l.loop-i.invariant.0),
       length-set l.loop-i.lowest _ _ ∙ l.loop-i.invariant.1,
-      put_in a.p.d (range s).d-high a.p.k (poly s) a.m a.holders.now a.shares.now (holders s) a.wrong s.pre.5 l.loop-i.i
+      put_in a.p.d (range s).d-high a.p.k (poly s) a.m a.holders.now a.shares.now (holders s) a.wrong s.requires.5 l.loop-i.i
           (omega arith) l.loop-i.invariant.0 l.loop-i.lowest l.loop-i.invariant.2 c.position_of.result c.position_of.ensures,
     )
 
 pub loop-i-preserved : goal.loop-i-preserved
 loop-i-preserved c =
-    let l = (goal.at.loop-i-preserved c).In-loop-i in
+    let l = (goal.at.loop-i-preserved c).At-loop-i in
     let s = S l in
     let a = s.args in (
       omega (arith, l.loop-i.invariant.0),
       l.loop-i.invariant.1,
       l.loop-i.invariant.2
-          ∙ left_out a.p.d (range s).d-high a.p.k (poly s) a.m a.holders.now a.shares.now (holders s) a.wrong s.pre.5 l.loop-i.i
+          ∙ left_out a.p.d (range s).d-high a.p.k (poly s) a.m a.holders.now a.shares.now (holders s) a.wrong s.requires.5 l.loop-i.i
           (omega arith) l.loop-i.invariant.0 c.if-wrong-x-eq1.false,
     )
 

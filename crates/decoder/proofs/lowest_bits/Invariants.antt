@@ -15,7 +15,7 @@ use Rattle.decoder.proofs.Positions.{ordered-holders, low-degree, positions-star
 use Rattle.decoder.proofs.lowest_bits.Given as goal
 
 abbrev pub invariant-loop-i : goal.invariant-loop-i
-invariant-loop-i l =     (l.i ≤ l.m) × (length l.lowest ≡ 64)
+invariant-loop-i l = (l.i ≤ l.m) × (length l.lowest ≡ 64)
     × (l.lowest ≡ positions l.p.k l.p.d (coefs l.p.d (suc l.p.t) l.rows) (shares_from l.p.d l.holders l.shares l.i (l.m - l.i)))
 
 abbrev pub decreases-loop-i : goal.decreases-loop-i

@@ -16,23 +16,20 @@ use Rattle.rounds.specs.declared.Found.TheVariants.{Wrong, Nothing}
 use Rattle.rounds.proofs.Arrays.{take-of}
 use Rattle.decoder.proofs.Rounds.{Sought, Jumped, Round, start, round}
 use Rattle.decoder.proofs.search.Goals as goal
-use Rattle.decoder.proofs.search.Goals.{After-round-got, Else-all, In-Wrong, Start}
+use Rattle.decoder.proofs.search.Goals.{After-round-got, At-loop-w, Else-all, In-Wrong}
 
 -- the shares that are still in, at the head of the loop; there are t + 1 of them at least
-abbrev Head : Type 0
-Head = tie.At-loop invariant-loop decreases-loop
+abbrev inside : At-loop-w → List Share
+inside l = shares_of l.args.d l.loop-w.count l.loop-w.hs l.loop-w.ys
 
-abbrev inside : Head → List Share
-inside l = shares_of l.before.args.d l.loop.count l.loop.hs l.loop.ys
+abbrev whole : At-loop-w → List Share
+whole l = let a = l.args in shares_of a.d a.m a.hs.now a.ys.now
 
-abbrev whole : Head → List Share
-whole l = let a = l.before.args in shares_of a.d a.m a.hs.now a.ys.now
+enough : (l : At-loop-w) → suc l.args.t + 2 * l.loop-w.bound ≤ l.loop-w.count
+enough l = omega (arith, l.loop-w.invariant.3.enough, length_from l.args.d l.loop-w.hs l.loop-w.ys 0 l.loop-w.count)
 
-enough : (l : Head) → suc l.before.args.t + 2 * l.loop.bound ≤ l.loop.count
-enough l = omega (arith, l.loop.inv.3.enough, length_from l.before.args.d l.loop.hs l.loop.ys 0 l.loop.count)
-
-first : (l : Head) → take (suc l.before.args.t) (inside l) ≡ shares_of l.before.args.d (suc l.before.args.t) l.loop.hs l.loop.ys
-first l = take-of l.before.args.d l.loop.hs l.loop.ys (suc l.before.args.t) l.loop.count (omega (arith, enough l))
+first : (l : At-loop-w) → take (suc l.args.t) (inside l) ≡ shares_of l.args.d (suc l.args.t) l.loop-w.hs l.loop-w.ys
+first l = take-of l.args.d l.loop-w.hs l.loop-w.ys (suc l.args.t) l.loop-w.count (omega (arith, enough l))
 
 pub loop-w-init : goal.loop-w-init
 loop-w-init c =
@@ -47,88 +44,84 @@ loop-w-init c =
 
 pub round-got-requires : goal.round-got-requires
 round-got-requires c =
-    let l = (goal.at.round-got-requires c).Start in
+    let l = (goal.at.round-got-requires c).At-loop-w in
     let p = l.requires in
-    let v = l.loop.invariant in
+    let v = l.loop-w.invariant in
     (p.0, p.1, p.2, v.0, enough l, v.3.holders, v.3.width, v.4)
 
 -- what a round gave
-abbrev Given : Type 0
-Given = tie.After-round invariant-loop decreases-loop
+abbrev head : After-round-got → At-loop-w
+head c = (goal.at.After-round-got c).At-loop-w
 
-abbrev head : Given → Head
-head c = c.before.before.before.before
+abbrev rows : After-round-got → Rows
+rows c = c.round-got.new.rows
 
-abbrev rows : Given → Rows
-rows c = c.round.new.1.1.1.1.1.1.1.0
-
-level : (c : Given) (got : Found) → c.round.result ≡ got →
+level : (c : After-round-got) (got : Found) → c.round-got.result ≡ got →
     (let l = head c in
-    let a = l.before.args in
-    Round a.k a.d a.t a.e (whole l) l.loop.bound l.loop.wrong (inside l) (rows c) got)
+    let a = l.args in
+    Round a.k a.d a.t a.e (whole l) l.loop-w.bound l.loop-w.wrong (inside l) (rows c) got)
 level c got x =
     let l = head c in
-    let a = l.before.args in
-    let p = l.before.pre in
-    round a.d p.1.0 p.1.1 a.k a.t a.e (whole l) l.loop.bound l.loop.wrong (inside l) l.loop.inv.3 (rows c)
-    (rw (first l) c.round.ensures.0) p.0.1 c.round.result got c.round.ensures.1.0 x
+    let a = l.args in
+    let p = l.requires in
+    round a.d p.1.0 p.1.1 a.k a.t a.e (whole l) l.loop-w.bound l.loop-w.wrong (inside l) l.loop-w.invariant.3 (rows c)
+    (rw (first l) c.round-got.ensures.through) p.0.1 c.round-got.result got c.round-got.ensures.found x
 
 pub returns-in_default : goal.returns-in_default
 returns-in_default c =
     let g = (goal.at.returns-in_default c).After-round-got in
     let r = level g Nothing c.in_default.is in
-    let v = (head g).loop.invariant in
-    (r.0, (r.1, (g.round-got.ensures.shaped, (v.1, v.2))))
+    let v = (head g).loop-w.invariant in
+    record { opening = r.0; wrong = r.1; shaped = g.round-got.ensures.shaped; room = (v.1, v.2) }
 
 -- holders are named
-abbrev Named : Type 0
-Named = tie.After-known-told invariant-loop decreases-loop
+abbrev given : In-Wrong → After-round-got
+given c = (goal.at.In-Wrong c).After-round-got
 
-abbrev given : Named → Given
-given c = c.before.before.before
+abbrev named : In-Wrong → ℕ
+named c = c.in-Wrong.w
 
-abbrev named : Named → ℕ
-named c = c.before.got.given.0.0
+abbrev all_named : In-Wrong → Bool
+all_named c = c.in-Wrong.all
 
-abbrev all_named : Named → Bool
-all_named c = c.before.got.given.0.1.0
-
-wrong-level : (c : Named) (all : Bool) → all_named c ≡ all →
+wrong-level : (c : In-Wrong) (all : Bool) → all_named c ≡ all →
     (let l = head (given c) in
-    let a = l.before.args in
-    Round a.k a.d a.t a.e (whole l) l.loop.bound l.loop.wrong (inside l) (rows (given c)) (Wrong (named c) all))
-wrong-level c all x = level (given c) (Wrong (named c) all) (c.before.got.given.1 ∙ ap (Wrong (named c)) x)
+    let a = l.args in
+    Round a.k a.d a.t a.e (whole l) l.loop-w.bound l.loop-w.wrong (inside l) (rows (given c)) (Wrong (named c) all))
+wrong-level c all x = level (given c) (Wrong (named c) all) (c.in-Wrong.is ∙ ap (Wrong (named c)) x)
 
 pub overflow_add-wrong : goal.overflow_add-wrong
-overflow_add-wrong c = omega (arith, (wrong-level c (all_named c) refl).0)
+overflow_add-wrong c = omega (arith, (wrong-level (goal.at.overflow_add-wrong c).In-Wrong (all_named (goal.at.overflow_add-wrong c).In-Wrong) refl).0)
 
 pub returns-then-all : goal.returns-then-all
 returns-then-all c =
     let n = (goal.at.returns-then-all c).In-Wrong in
     let r = (wrong-level n true c.if-all.true).1 in
-    let v = (head (given n)).loop.inv in
-    (r.0, (r.1, ((given n).round.ensures.1.1, (v.1, v.2))))
+    let v = (head (given n)).loop-w.invariant in
+    record { opening = r.0; wrong = r.1; shaped = n.round-got.ensures.shaped; room = (v.1, v.2) }
 
 -- some of them only
 jumped : (c : Else-all) →
-    (let n = c.before in
+    (let n = (goal.at.Else-all c).In-Wrong in
     let l = head (given n) in
-    let a = l.before.args in
-    Jumped a.k a.d a.t a.e (whole l) l.loop.bound l.loop.wrong (inside l) (named n))
+    let a = l.args in
+    Jumped a.k a.d a.t a.e (whole l) l.loop-w.bound l.loop-w.wrong (inside l) (named n))
 jumped c = (wrong-level (goal.at.Else-all c).In-Wrong false c.if-all.false).1
 
 pub overflow_cast-errors : goal.overflow_cast-errors
-overflow_cast-errors c = let l = head (given (goal.at.overflow_cast-errors c).In-Wrong) in omega (arith, (jumped c).within, enough l, l.loop.inv.0)
+overflow_cast-errors c =
+    let f = (goal.at.overflow_cast-errors c).Else-all in
+    let l = head (given (goal.at.Else-all f).In-Wrong) in
+    omega (arith, (jumped f).within, enough l, l.loop-w.invariant.0)
 
 pub overflow_sub-bound : goal.overflow_sub-bound
-overflow_sub-bound c = omega (arith, (jumped c).within)
+overflow_sub-bound c = omega (arith, (jumped (goal.at.overflow_sub-bound c).Else-all).within)
 
 pub drop_wrong-count-requires : goal.drop_wrong-count-requires
 drop_wrong-count-requires c =
     let l = head (given (goal.at.drop_wrong-count-requires c).In-Wrong) in
-    let s = l.before in
-    let v = l.loop.inv in
-    (v.0, v.1, v.2, holders-numbered s.args.d s.pre.1.1 l.loop.count l.loop.hs l.loop.ys v.3.holders)
+    let v = l.loop-w.invariant in
+    (v.0, v.1, v.2, holders-numbered l.args.d l.requires.1.1 l.loop-w.count l.loop-w.hs l.loop-w.ys v.3.holders)
 
 pub loop-w-smaller : goal.loop-w-smaller
 loop-w-smaller c = let j = jumped (goal.at.loop-w-smaller c).Else-all in omega (arith, j.within, j.drops)
@@ -139,9 +132,9 @@ loop-w-preserved c =
     let g = given (goal.at.Else-all f).In-Wrong in
     let l = head g in
     let e = c.drop_wrong-count.ensures in (
-      omega (arith, e.1, l.loop.inv.0),
+      omega (arith, e.1, l.loop-w.invariant.0),
       e.2,
       e.3,
-      rw (e.0 l.before.args.d) (jumped f).next,
-      g.round.ensures.1.1,
+      rw (e.0 l.args.d) (jumped f).next,
+      g.round-got.ensures.shaped,
     )

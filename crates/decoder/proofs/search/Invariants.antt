@@ -18,7 +18,7 @@ use Rattle.decoder.proofs.Rounds.{Sought, Jumped, Round, start, round}
 use Rattle.decoder.proofs.search.Given as goal
 
 abbrev pub invariant-loop-w : goal.invariant-loop-w
-invariant-loop-w l =     (l.count ≤ 63) × (length l.hs ≡ 63) × (length l.ys ≡ 63)
+invariant-loop-w l = (l.count ≤ 63) × (length l.hs ≡ 63) × (length l.ys ≡ 63)
     × Sought l.k l.d l.t l.e (shares_of l.d l.m l.initial.hs l.initial.ys) l.bound l.wrong (shares_of l.d l.count l.hs l.ys)
     × Shaped l.rows
 

@@ -38,7 +38,7 @@ returns-then-e-errors c =
     let p = s.requires in
     let w = c.wide_holders-wide in
     rw (too_many a.d p.1.0 p.1.1 a.k a.t a.e (whole s) p.5 (enough s) w.result w.ensures c.if-e-errors.true)
-    (refl, (refl, p.10))
+    (record { opening = refl; wrong = refl; shaped = p.10 })
 
 pub search_without-requires : goal.search_without-requires
 search_without-requires c =

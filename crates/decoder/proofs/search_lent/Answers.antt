@@ -50,7 +50,7 @@ pub returns-in_default : goal.returns-in_default
 returns-in_default c =
     let g = (goal.at.returns-in_default c).After-round-got in
     let r = level g Nothing c.in_default.is in
-    (r.0, (r.1, g.round-got.ensures.shaped))
+    record { opening = r.0; wrong = r.1; shaped = g.round-got.ensures.shaped }
 
 abbrev named : In-Wrong → ℕ
 named c = c.in-Wrong.w
@@ -68,7 +68,7 @@ pub returns-then-all : goal.returns-then-all
 returns-then-all c =
     let n = (goal.at.returns-then-all c).In-Wrong in
     let r = (wrong-level n true c.if-all.true).1 in
-    (r.0, (rw (zero-add (named n)) at r.1, n.round-got.ensures.shaped))
+    record { opening = r.0; wrong = rw (zero-add (named n)) at r.1; shaped = n.round-got.ensures.shaped }
 
 pub search_without-requires : goal.search_without-requires
 search_without-requires c =

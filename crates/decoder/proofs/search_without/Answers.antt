@@ -27,13 +27,13 @@ search-found-requires c =
     let a = s.args in
     let p = s.requires in
     let e = r.copy_others-count.ensures in
-    let x = r.copy_others-count.new.holders in
+    let x = r.copy_others-count.new in
     let o = e.0 a.d in (
       p.0,
       p.1,
       p.2,
       omega (arith, e.1, p.3),
-      rw (← length_from a.d x.0 x.1.0 0 r.copy_others-count.result, o) p.6.enough,
+      rw (← length_from a.d x.holders x.shares 0 r.copy_others-count.result, o) p.6.enough,
       rw o (holders-without a.u a.d (whole s) p.4),
       rw o (rising-without a.u (whole s) p.5),
       rw o p.6.width,
@@ -61,7 +61,7 @@ pub returns-then-found-ne0 : goal.returns-then-found-ne0
 returns-then-found-ne0 c =
     let f = (goal.at.returns-then-found-ne0 c).After-search-found in
     let x = answer f in
-    (x.opening, (x.declined c.if-found-ne0.true, f.search-found.ensures.shaped))
+    record { opening = x.opening; wrong = x.declined c.if-found-ne0.true; shaped = f.search-found.ensures.shaped }
 
 pub overflow_add-result : goal.overflow_add-result
 overflow_add-result c = omega (arith, ((answer (goal.at.overflow_add-result c).After-search-found).opened c.if-found-ne0.false).2)
@@ -70,4 +70,4 @@ pub returns : goal.returns
 returns c =
     let f = (goal.at.returns c).After-search-found in
     let x = (answer f).opened c.if-found-ne0.false in
-    (x.0, (x.1, f.search-found.ensures.shaped))
+    record { opening = x.0; wrong = x.1; shaped = f.search-found.ensures.shaped }

@@ -1,7 +1,6 @@
 -- `decoder::wide_by` meets its contract: after each turn it has the holders of the wide shares passed. Assumes nothing.
 use borrow.Author.Rules.{rules}
 use native.Mathlib.Omega.{arith}
-use borrow.Author.Tests.{not-true, not-false}
 use mathlib.Core.Path.{◌≡◌, sym, ◌∙◌, ap}
 use mathlib.Core.Bool.{true, false, not}
 use mathlib.Core.List.{[]}
@@ -17,14 +16,14 @@ use Rattle.level.proofs.Shares.{from_end, sized-at}
 use Rattle.rounds.proofs.Collected.{set-start, holder-low, holder-high, set_same, set_more}
 use Rattle.rounds.proofs.Lowest.{six_bits, width-six}
 use Rattle.decoder.proofs.wide_by.Goals as goal
-use Rattle.decoder.proofs.wide_by.Goals.{After-in_width, At-loop-i, In-loop-i, Then-not-in_width}
+use Rattle.decoder.proofs.wide_by.Goals.{After-in_width, At-loop-i, Then-not-in_width}
 
 pub loop-i-init : goal.loop-i-init
 loop-i-init c = let a = c.args in (omega arith, set-start a.d c.requires.0 (wide a.k) a.m a.hs.now a.ys.now c.requires.2)
 
 -- the row that is looked at, by its words together
-row-width : (l : At-loop-i) → 0 < l.loop.i →
-    (let a = l.before.args in let y = get_or a.ys.now (l.loop.i - 1) [] in
+row-width : (l : At-loop-i) → 0 < l.loop-i.i →
+    (let a = l.args in let y = get_or a.ys.now (l.loop-i.i - 1) [] in
     in_width a.k (six_bits (held a.d y)) ≡ all_in_width a.k (take a.d y))
 row-width l h =
     let a = l.args in
@@ -50,11 +49,11 @@ pub loop-i-preserved-then-not-in_width : goal.loop-i-preserved-then-not-in_width
 unfolding wide
 loop-i-preserved-then-not-in_width c =
     let w = (goal.at.loop-i-preserved-then-not-in_width c).Then-not-in_width in
-    let l = (goal.at.Then-not-in_width w).In-loop-i in
+    let l = (goal.at.Then-not-in_width w).At-loop-i in
     let a = l.args in
     let e : all_in_width a.k (take a.d (get_or a.ys.now (l.loop-i.i - 1) [])) ≡ false =
     sym (row-width l (omega arith)) ∙ ap (λ (u : Element). in_width a.k (six_bits u)) (sym w.keep-u.ensures) ∙ sym w.in_width.ensures
-    ∙ not-true _ c.if-not-in_width.true in (
+    ∙ c.if-not-in_width.true in (
       omega (arith, l.loop-i.invariant.0),
       set_more a.d l.requires.0 (wide a.k) a.m a.hs.now a.ys.now l.requires.2 l.loop-i.i (omega arith)
           l.loop-i.invariant.0 (ap not e) l.loop-i.set l.loop-i.invariant.1,
@@ -68,7 +67,7 @@ loop-i-preserved c =
     let a = l.args in
     let e : all_in_width a.k (take a.d (get_or a.ys.now (l.loop-i.i - 1) [])) ≡ true =
     sym (row-width l (omega arith)) ∙ ap (λ (u : Element). in_width a.k (six_bits u)) (sym w.keep-u.ensures) ∙ sym w.in_width.ensures
-    ∙ not-false _ c.if-not-in_width.false in (
+    ∙ c.if-not-in_width.false in (
       omega (arith, l.loop-i.invariant.0),
       l.loop-i.invariant.1
           ∙ set_same a.d l.requires.0 (wide a.k) a.m a.hs.now a.ys.now l.requires.2 l.loop-i.i (omega arith)
