@@ -14,8 +14,7 @@ loop-i-init c = (search rules, paste-zero c.args.out.now 0 c.args.words.now, ref
 
 pub loop-i-preserved : goal.loop-i-preserved
 loop-i-preserved c =
-    let l = (goal.at.loop-i-preserved c).At-loop-i in
-    (
+    let l = (goal.at.loop-i-preserved c).At-loop-i in (
       omega arith,
       fill-next l.args.out.now l.args.words.now l.loop-i.out l.loop-i.i 0 _ l.loop-i.invariant.1 (omega (arith, l.requires)) (omega arith)
           refl,

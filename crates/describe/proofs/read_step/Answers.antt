@@ -40,10 +40,10 @@ returns-in-Record c =
     let b = (goal.at.returns-in-Record c).After-read in
     let f = (goal.at.After-read b).After-length_fault-fault in
     let s = (goal.at.After-length_fault-fault f).Start in
-    let e = c.kind-1.given in
+    let e = c.in-Record.is in
     step-told (bs s) s.args.cursor (old s) (length (old s)) f.length_fault-fault.result f.length_fault-fault.ensures b.if-fault-ne0.false
-    b.read.result b.read.ensures.0 b.read.ensures.1 _ (ap read_fault e.1)
-    (c.copy_words.ensures ∙ sym (ap (step_by s.args.cursor) e.1))
+    b.read.result b.read.ensures.0 b.read.ensures.1 _ (ap read_fault e)
+    (c.copy_words.ensures ∙ sym (ap (step_by s.args.cursor) e))
 
 pub returns-in-End : goal.returns-in-End
 unfolding read_fault
