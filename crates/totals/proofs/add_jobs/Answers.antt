@@ -57,7 +57,7 @@ loop-p-preserved c =
     let s = (goal.at.loop-p-preserved c).Start in
     let a = s.args in
     let w = c.add_words-seen in
-    let y = w.new.1.1.1.0 in
+    let y = w.new.running in
     let u : a.d ≤ length l.running = omega arith in
     let e = rw l.invariant.1 at w.ensures in (
       omega arith,
@@ -67,7 +67,7 @@ loop-p-preserved c =
           ∙ more-seen k (bit_or l.even l.odd) _ (λ i. all_in_width k (jobs s i)) l.p (l.invariant.2 k) (e.0 k),
       λ k h. added_more a.d a.running.now (jobs s) l.p (long s l.p) l.running y u e.1 k h (l.invariant.3 k h),
       added-rest a.d a.running.now (jobs s) l.p (long s l.p) l.running y u e.1 l.invariant.4,
-      w.auto.1.1.1.0 ∙ l.invariant.5,
+      w.auto.running ∙ l.invariant.5,
     )
 
 pub returns : goal.returns

@@ -1,13 +1,12 @@
 -- `add_run`: in each arm the contract of `add_jobs` at that d, of the jobs of the run; the words are then cut. Assumes nothing.
 use borrow.Author.Rules.{rules}
 use native.Mathlib.Omega.{arith}
-use mathlib.Core.Logic.{⊎_elim}
 use mathlib.Core.Path.{◌≡◌, refl, ap, ◌∙◌}
 use mathlib.Core.List.{List, ◌++◌}
 use Prim.Native.Nat.{ℕ, ◌+◌, ◌-◌, ◌*◌, ◌≤◌}
 use lib.ListN.{length, take, drop}
 use Rattle.words.specs.Word.{in_width, all_in_width}
-use Rattle.words.proofs.InRange.{InRange, six}
+use Rattle.words.proofs.InRange.{InRange}
 use Rattle.galois.specs.Element.{sum, reduce}
 use Rattle.records.specs.Layout.{record_size, head_size, job_size, file_size, order_size}
 use Rattle.bundle.proofs.Bundles.{bundle-ok, ranges-of}
@@ -16,7 +15,7 @@ use Rattle.totals.specs.Values.{every}
 use Rattle.totals.specs.Total.{sum_to, run_total, run_in_width, added_to}
 use Rattle.totals.proofs.Runs.{job_words, run-within, run-told}
 use Rattle.totals.proofs.add_run.Goals as goal
-use Rattle.totals.proofs.add_run.Goals.{After-job_at, After-job_length-size, In_default, Joined-d, Start}
+use Rattle.totals.proofs.add_run.Goals.{in-2, in-3, in-4, in-5, in_default, After-job_at, After-job_length-size, In_default, Joined-d, Start}
 
 abbrev bs : Start → List ℕ
 bs s = s.args.bytes.now
@@ -44,6 +43,10 @@ near c =
     h.params.d s.requires.2 (ends s) (start c) refl refl in
     omega (arith, w.0, w.1)
 
+-- what is told of the words seen and of the list that was lent
+abbrev S : After-job_length-size → Start
+S c = (goal.at.After-job_length-size c).Start
+
 abbrev Told : After-job_length-size → ℕ → List ℕ → Type 0
 Told c r y =
     let s = (goal.at.After-job_length-size c).Start in
@@ -58,24 +61,52 @@ apart : (c : After-job_length-size) → 4 + c.job_length-size.result ≡ job_siz
 unfolding record_size
 apart c = ap (λ (x : ℕ). 4 + x) c.job_length-size.ensures
 
+module _ (c : After-job_length-size) (d : ℕ) (same : (S c).args.h.params.d ≡ d) where
+  abbrev at : ℕ
+  at = c.job_at.result + 6 + 8
+
+  abbrev size : ℕ
+  size = 4 + c.job_length-size.result
+
+  abbrev count : ℕ
+  count = (S c).args.b - (S c).args.a
+
+  within : (size ≤ 62) × (at + count * size + 8 * d ≤ length (bs (S c)) + size) × (d ≤ length (old (S c)))
+  within =
+      let s = S c in
+      let w = run-within (bs s) s.requires.0 s.args.h s.requires.1 s.args.f s.args.a count at size d s.requires.2 (ends s)
+      (start (goal.at.After-job_length-size c).After-job_at) (apart c) same in
+      (w.0, w.1, omega (arith, same, s.requires.5))
+
+  told : (r : ℕ) (y : List ℕ) → ((k : ℕ) → in_width k r ≡ every (λ i. all_in_width k (job_words (bs (S c)) d at size i)) count)
+      × ((k : ℕ) → k ≤ 64 → reduce k (take d y) ≡ sum k (old (S c)) (sum_to k d (job_words (bs (S c)) d at size) count))
+      × (drop d y ≡ drop d (old (S c))) → length y ≡ length (old (S c)) → Told c r y
+  told r y q l =
+      let s = S c in
+      let t = run-told (bs s) s.requires.0 s.args.h s.requires.1 s.args.f s.args.a count at size d s.requires.2 (ends s)
+      (start (goal.at.After-job_length-size c).After-job_at) (apart c) same r (old s) y q in
+      (t.0, t.1, l)
+
 -- past 2, 3, 4 and 5
 last : (c : In_default) → c.args.h.params.d ≡ 6
 last c =
-    let s = (goal.at.In_default c).Start in
-    let r = c.in_default.in_default-own.rest in
-    six s.args.h.params.d (book s).d-low (book s).d-high r.0.0.0.1 r.0.0.1 r.0.1 r.1
+    let b = book (goal.at.In_default c).Start in
+    omega (arith, b.d-low, b.d-high)
 
 -- where the arms meet
 met : (c : Joined-d) → Told (goal.at.Joined-d c).After-job_length-size c.match-d.seen c.match-d.running
 met c =
     let t = told (goal.at.Joined-d c).After-job_length-size in
-    ⊎_elim (λ w. rw (w.5, w.6) (t 2 w.0.keys1 _ _ w.2.ensures w.2.kept.1.1.1.1.1.0))
-    (⊎_elim (λ w. rw (w.5, w.6) (t 3 w.0.keys2 _ _ w.2.ensures w.2.kept.1.1.1.1.1.0))
-    (⊎_elim (λ w. rw (w.5, w.6) (t 4 w.0.keys3 _ _ w.2.ensures w.2.kept.1.1.1.1.1.0))
-    (⊎_elim (λ w. rw (w.5, w.6) (t 5 w.0.keys4 _ _ w.2.ensures w.2.kept.1.1.1.1.1.0))
-    (λ w.
-    rw (w.5, w.6) (t 6 (last (record { before = (goal.at.Joined-d c).After-job_length-size; match = w.0 })) _ _ w.2.ensures w.2.kept.1.1.1.1.1.0)))))
-    c.match-d.branch
+    elim c.match-d.branch [
+      | in-2 w ↦ rw (w.seen-is, w.running-is) (t 2 w.in-2.is _ _ w.add_jobs-seen.ensures w.add_jobs-seen.auto.running)
+      | in-3 w ↦ rw (w.seen-is, w.running-is) (t 3 w.in-3.is _ _ w.add_jobs-seen-in-3.ensures w.add_jobs-seen-in-3.auto.running)
+      | in-4 w ↦ rw (w.seen-is, w.running-is) (t 4 w.in-4.is _ _ w.add_jobs-seen-in-4.ensures w.add_jobs-seen-in-4.auto.running)
+      | in-5 w ↦ rw (w.seen-is, w.running-is) (t 5 w.in-5.is _ _ w.add_jobs-seen-in-5.ensures w.add_jobs-seen-in-5.auto.running)
+      | in_default w ↦
+          let b = book (goal.at.Joined-d c).Start in
+          let six : c.args.h.params.d ≡ 6 = omega (arith, b.d-low, b.d-high) in
+          rw (w.seen-is, w.running-is) (t 6 six _ _ w.add_jobs-seen-in_default.ensures w.add_jobs-seen-in_default.auto.running)
+    ]
 
 pub cut_words-requires : goal.cut_words-requires
 cut_words-requires c =

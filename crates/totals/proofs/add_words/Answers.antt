@@ -20,8 +20,49 @@ use Rattle.totals.specs.Total.{added_to}
 use Rattle.totals.proofs.Sums.{zip-within}
 use Rattle.totals.proofs.Added.{zip-count, fill_here}
 use Rattle.totals.proofs.Words.{lanes, in-turn}
+use Rattle.totals.proofs.add_words.Invariants.{Passed}
 use Rattle.totals.proofs.add_words.Goals as goal
 use Rattle.totals.proofs.add_words.Goals.{After-load_word-w, After-load_word-w-then-j-d, Start}
+
+module _ (s : Start) where
+  abbrev bs : List ℕ
+  bs = s.args.bytes.now
+
+  abbrev old : List ℕ
+  old = s.args.running.now
+
+  abbrev w : Element
+  w = words_from 8 bs s.args.d s.args.at
+
+  count : length w ≡ s.args.d
+  count = words_count 8 bs s.args.d s.args.at
+
+  within : length w ≤ length old
+  within = rw count s.requires.1
+
+  -- one word more: r is what is read, v what is stored
+  next : (new : List ℕ) (seen j here r v : ℕ) → Passed w old new seen j → j < s.args.d → here ≡ s.args.at + 8 * j → r ≡ le_at 8 bs here →
+      v ≡ add_w 64 (get_or new j 0) r → Passed w old (set new j v) (bit_or seen r) (j + 1)
+  next new seen j here r v p l e q t =
+      let m : j < length w = rw count l in
+      let n = zip-count (add_w 64) old w within in
+      let f : r ≡ get_or w j 0 = q ∙ ap (le_at 8 bs) e ∙ sym (words-at 8 bs s.args.d s.args.at j l) in (
+        λ k. rw f (one_seen k seen w j m) ∙ p.0 k,
+        fill_here (λ (y : ℕ). add_w 64 y r) old (sum 64 old w) new j v p.1 (rw n m) (rw n within)
+            (zip-within (add_w 64) old w j m within ∙ rw f) t,
+      )
+
+  -- the words seen, in another order
+  turned : (new : List ℕ) (x y j : ℕ) → ((k : ℕ) → in_width k x ≡ in_width k y) → Passed w old new y j → Passed w old new x j
+  turned new x y j e p = (λ k. ap (λ (b : Bool). b && all_in_width k (drop j w)) (e k) ∙ p.0 k, p.1)
+
+  done : (new : List ℕ) (seen j : ℕ) → Passed w old new seen j → j ≡ s.args.d →
+      ((k : ℕ) → in_width k seen ≡ all_in_width k w) × (new ≡ added_to 64 old w)
+  done new seen j p e =
+      let n : j ≡ length w = e ∙ sym count in (
+        λ k. sym (all_seen k seen w j (le_of_eq (sym n))) ∙ p.0 k,
+        fill-within old (sum 64 old w) new 0 (length w) (rw n at p.1) (zip-count (add_w 64) old w within) ∙ rw zero-add,
+      )
 
 pub bounds-running-j-in-loop-j-2 : goal.bounds-running-j-in-loop-j-2
 bounds-running-j-in-loop-j-2 c = rw length-set (omega arith)

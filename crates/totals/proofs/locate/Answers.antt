@@ -15,10 +15,11 @@ bs s = s.args.bytes.now
 pub returns-then-accepted-ne0 : goal.returns-then-accepted-ne0
 returns-then-accepted-ne0 c =
     let s = (goal.at.returns-then-accepted-ne0 c).Start in
-    let r = c.accept-accepted in (
-      asked-refused (bs s) s.args.holder s.args.a s.args.b s.args.out r.result r.ensures c.if-accepted-ne0.true,
-      λ z. absurd (c.if-accepted-ne0.true z),
-    )
+    let r = c.accept-accepted in
+    record {
+      fault = asked-refused (bs s) s.args.holder s.args.a s.args.b s.args.out r.result r.ensures c.if-accepted-ne0.true;
+      found = λ z. absurd (c.if-accepted-ne0.true z);
+    }
 
 pub find_file-file-requires : goal.find_file-file-requires
 find_file-file-requires c =
@@ -32,10 +33,11 @@ returns c =
     let e = (goal.at.After-holder_fault t).Else-accepted-ne0 in
     let s = (goal.at.Else-accepted-ne0 e).Start in
     let r = e.accept-accepted in
-    let z = e.if-accepted-ne0.false in (
-      c.first-fault.ensures
+    let z = e.if-accepted-ne0.false in
+    record {
+      fault = c.first-fault.ensures
           ∙ ap₂ first t.holder_fault.ensures
           (c.first.ensures ∙ ap₂ first c.length_fault.ensures c.run_fault.ensures)
-          ∙ asked-told (bs s) s.args.holder s.args.a s.args.b s.args.out r.result r.ensures z _ t.find_file-file.ensures,
-      λ _. (accept-heading (bs s) r.result r.ensures z, t.find_file-file.ensures),
-    )
+          ∙ asked-told (bs s) s.args.holder s.args.a s.args.b s.args.out r.result r.ensures z _ t.find_file-file.ensures;
+      found = λ _. (accept-heading (bs s) r.result r.ensures z, t.find_file-file.ensures);
+    }

@@ -1,6 +1,5 @@
 -- `total`: each return is a case of the total of a holder's file. Assumes nothing.
 use borrow.Author.Rules.{rules}
-use borrow.Author.Tests.{not-true, not-false}
 use mathlib.Core.Path.{◌≡◌, sym, ◌∙◌}
 use mathlib.Core.List.{List}
 use Prim.Native.Nat.{ℕ, ◌-◌}
@@ -27,7 +26,7 @@ pub returns-then-found-ne0 : goal.returns-then-found-ne0
 returns-then-found-ne0 c =
     let s = (goal.at.returns-then-found-ne0 c).Start in
     let l = c.locate-found in
-    let e = total-asked (bs s) s.args.holder s.args.a s.args.b (length (old s)) l.result.fault l.ensures.0 c.if-found-ne0.true in
+    let e = total-asked (bs s) s.args.holder s.args.a s.args.b (length (old s)) l.result.fault l.ensures.fault c.if-found-ne0.true in
     total-refused (bs s) s.args.holder s.args.a s.args.b (old s) l.result.fault e c.if-found-ne0.true
 
 abbrev H : Else-found-ne0 → Heading
@@ -40,7 +39,7 @@ known : (c : Else-found-ne0) → let s = (goal.at.Else-found-ne0 c).Start in Fou
 known c =
     let s = (goal.at.Else-found-ne0 c).Start in
     let l = c.locate-found in
-    asked-found (bs s) s.args.holder s.args.a s.args.b (length (old s)) (H c) (F c) l.result.fault l.ensures.0 l.ensures.1
+    asked-found (bs s) s.args.holder s.args.a s.args.b (length (old s)) (H c) (F c) l.result.fault l.ensures.fault l.ensures.found
     c.if-found-ne0.false
 
 book : (c : Else-found-ne0) → InRange (H c).params
@@ -65,7 +64,7 @@ pub returns-then-not-in_width : goal.returns-then-not-in_width
 returns-then-not-in_width c =
     let s = (goal.at.returns-then-not-in_width c).Start in
     total-refused (bs s) s.args.holder s.args.a s.args.b (old s) 3
-    (sym (tested (goal.at.returns-then-not-in_width c).After-in_width ∙ unless-no _ 3 (not-true _ c.if-not-in_width.true))) (λ z. omega arith)
+    (sym (tested (goal.at.returns-then-not-in_width c).After-in_width ∙ unless-no _ 3 c.if-not-in_width.true)) (λ z. omega arith)
 
 pub store-requires : goal.store-requires
 store-requires c =
@@ -79,6 +78,6 @@ returns c =
     let e = (goal.at.After-add_run-seen a).Else-found-ne0 in
     let s = (goal.at.Else-found-ne0 e).Start in
     let g = known e in
-    total-done (bs s) s.args.holder s.args.a s.args.b (old s) g (tested (goal.at.Else-not-in_width w).After-in_width ∙ unless-yes _ 3 (not-false _ w.if-not-in_width.false)) _
+    total-done (bs s) s.args.holder s.args.a s.args.b (old s) g (tested (goal.at.Else-not-in_width w).After-in_width ∙ unless-yes _ 3 w.if-not-in_width.false) _
     (run-stored (bs s) (H e) g.heading (F e) s.args.a (s.args.b - s.args.a) (old s) _ _ (book e).d-high g.output
     a.add_run-seen.ensures.1 c.store.ensures)
