@@ -18,8 +18,7 @@ loop-i-init c = (search rules, refl, paste-zero (replicate 63 0) 0 c.args.holder
 -- src/lib.rt:146:5
 pub loop-i-preserved : goal.loop-i-preserved
 loop-i-preserved c =
-    let l = (goal.at.loop-i-preserved c).At-loop-i in
-    (
+    let l = (goal.at.loop-i-preserved c).At-loop-i in (
       omega arith,
       simp length-set l.loop-i.invariant.1,
       fill-next (replicate 63 0) l.args.holders.now l.loop-i.r l.loop-i.i 0 _ l.loop-i.invariant.2 (omega arith) (omega arith) refl,

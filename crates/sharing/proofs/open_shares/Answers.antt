@@ -59,7 +59,7 @@ returns-then-fault-ne0 c =
     let z : O s ≡ declines (F s) =
     opening-stopped s.args.p s.args.holders.now s.args.shares.now s.args.e (length s.args.out.now)
     (length s.args.wrong.now) (length s.args.lowest.now) (λ z. c.if-fault-ne0.true (e ∙ z)) in
-    rw z (e, (refl, (refl, refl)))
+    rw z (record { fault = e; out = refl; wrong = refl; lowest = refl })
 
 pub load_holders-hs-requires : goal.load_holders-hs-requires
 load_holders-hs-requires c = few c
@@ -109,7 +109,7 @@ hands a =
     let p = l.args.p in
     let e = rw (same l) at a.decode-opened.ensures in
     handed p.k p.d p.t (lent p.d l.args.holders.now l.args.shares.now) a.decode-opened.result.fault _ a.decode-opened.result.wrong _
-    e.1.1 e.0 e.1.0
+    e.shaped e.opening e.wrong
 
 pub hand_out-requires : goal.hand_out-requires
 hand_out-requires c =
@@ -128,7 +128,9 @@ returns c =
     let z =
     opening-clear l.args.p l.args.holders.now l.args.shares.now l.args.e (length l.args.out.now) (length l.args.wrong.now)
     (length l.args.lowest.now) (no_fault (goal.at.After-load_shares-ys l).Else-fault-ne0) in
-    rw z (
-      h.0 ∙ g.fault,
-      (h.1.0 ∙ g.secret l.args.out.now, (h.1.1.0 ∙ g.wrong l.args.wrong.now, h.1.1.1 ∙ g.lowest l.args.lowest.now)),
-    )
+    rw z (record {
+      fault = h.fault ∙ g.fault;
+      out = h.out ∙ g.secret l.args.out.now;
+      wrong = h.wrong ∙ g.wrong l.args.wrong.now;
+      lowest = h.lowest ∙ g.lowest l.args.lowest.now;
+    })

@@ -30,8 +30,7 @@ returns-then-n-h c =
 -- src/lib.rt:100:5
 pub loop-i-preserved : goal.loop-i-preserved
 loop-i-preserved c =
-    let l = (goal.at.loop-i-preserved c).At-loop-i in
-    (
+    let l = (goal.at.loop-i-preserved c).At-loop-i in (
       omega arith,
       l.loop-i.invariant.1
           ∙ rising-next l.args.n l.loop-i.prev l.args.holders.now l.loop-i.i (omega arith) c.if-h-prev.false c.if-n-h.false,

@@ -12,7 +12,7 @@ use Rattle.sharing.proofs.share_by.Given as goal
 
 -- the coefficients from the i-th on are in, and what is before them ends at i d
 abbrev pub invariant-loop-at : goal.invariant-loop-at
-invariant-loop-at l =     (i : ℕ) × (i ≤ l.t) × (l.at ≡ i * l.d) × (l.r ≡ held l.d (above 64 l.d (point l.d l.x) (elements_from l.d l.t l.coefficients i)))
+invariant-loop-at l = (i : ℕ) × (i ≤ l.t) × (l.at ≡ i * l.d) × (l.r ≡ held l.d (above 64 l.d (point l.d l.x) (elements_from l.d l.t l.coefficients i)))
 
 abbrev pub decreases-loop-at : goal.decreases-loop-at
 decreases-loop-at l = l.at

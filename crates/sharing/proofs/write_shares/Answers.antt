@@ -35,7 +35,7 @@ loop-at-init c =
     (omega arith, omega arith, sym (zero-mul s.args.p.d), paste-zero s.args.out.now 0 (S s), refl)
 
 -- in the loop the holder is one of the n
-holder : (c : In-loop-at) → let l = c.before in l.loop.x - 1 < l.before.before.before.before.args.p.n
+holder : (c : In-loop-at) → c.loop-at.x - 1 < c.args.p.n
 holder c =
     let l = (goal.at.In-loop-at c).At-loop-at in
     lt_of_mul-lt-mul_right l.args.p.d (omega (arith, c.loop-at-test.true, l.loop-at.invariant.2, l.loop-at.invariant.4, l.requires.5))

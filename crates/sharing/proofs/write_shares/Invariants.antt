@@ -19,7 +19,7 @@ use Rattle.sharing.proofs.Dealt.{share-length, shares-length, share-at}
 use Rattle.sharing.proofs.write_shares.Given as goal
 
 abbrev pub invariant-loop-at : goal.invariant-loop-at
-invariant-loop-at l =     (1 ≤ l.x)
+invariant-loop-at l = (1 ≤ l.x)
     × (l.x ≤ l.p.n + 1)
     × (l.at ≡ (l.x - 1) * l.p.d)
     × (l.out ≡ paste l.initial.out 0 (dealt_from l.p.k l.p.d (l.secret ∷ elements_of l.p.d l.p.t l.coefficients) l.p.n 1) l.at)
