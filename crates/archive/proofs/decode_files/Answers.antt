@@ -42,4 +42,4 @@ returns c =
     let d = c.decode.ensures in
     let m = c.allowance-e in
     let o = answered (bs s) s.args.h s.requires.1 s.args.files s.requires.2 s.args.shares.now _ (same s) m.result m.ensures in
-    (d.0 ∙ o, (d.1.0 ∙ ap₂ (wrong_of s.args.h.params.k s.args.h.params.d) (same s) o, d.1.1))
+    record { opening = d.opening ∙ o; wrong = d.wrong ∙ ap₂ (wrong_of s.args.h.params.k s.args.h.params.d) (same s) o; shaped = d.shaped }

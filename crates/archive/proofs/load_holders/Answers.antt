@@ -29,8 +29,7 @@ bounds-holders-f c = omega (arith, few (goal.at.bounds-holders-f c).Start)
 
 pub loop-f-preserved : goal.loop-f-preserved
 loop-f-preserved c =
-    let s = (goal.at.loop-f-preserved c).Start in
-    (
+    let s = (goal.at.loop-f-preserved c).Start in (
       search rules,
       values-next (holder_of s.args.bytes.now) s.args.files (replicate 63 0) c.loop-f.holders c.loop-f.f c.file_holder.result
           c.loop-f.invariant.1 (omega arith) (room s) c.file_holder.ensures,

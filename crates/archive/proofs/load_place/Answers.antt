@@ -34,7 +34,7 @@ loop-f-init c =
     (omega arith, s.requires.4, none_seen s.args.h.params.k (test s), values-start (row s) s.args.files s.args.shares.now)
 
 -- the row that it writes is there
-here : (c : After-job_words-w) → c.before.before.loop.f < 63
+here : (c : After-job_words-w) → c.loop-f.f < 63
 here c = omega (arith, few (goal.at.After-job_words-w c).Start, c.loop-f-test.true)
 
 pub offset_bounds-shares-f : goal.offset_bounds-shares-f

@@ -18,7 +18,7 @@ use Rattle.totals.proofs.Words.{words_length, padded, padded-width, none_seen, m
 use Rattle.archive.proofs.load_place.Given as goal
 
 abbrev pub invariant-loop-f : goal.invariant-loop-f
-invariant-loop-f l =     (l.f ≤ l.files) × (length l.shares ≡ 63) × (in_width l.h.params.k l.seen ≡ every (λ g. all_in_width (params_of l.bytes).k (words_of l.bytes g l.place)) l.f)
+invariant-loop-f l = (l.f ≤ l.files) × (length l.shares ≡ 63) × (in_width l.h.params.k l.seen ≡ every (λ g. all_in_width (params_of l.bytes).k (words_of l.bytes g l.place)) l.f)
     × (l.shares ≡ filled (λ g. held l.h.params.d (words_of l.bytes g l.place)) l.files l.initial.shares l.f)
 
 abbrev pub decreases-loop-f : goal.decreases-loop-f

@@ -35,7 +35,7 @@ loop-f-init c =
     (omega arith, s.requires.5, none_seen s.args.h.params.k (run s), values-start (row s) s.args.files s.args.shares.now)
 
 -- the row that is lent is there, and of zeros
-here : (c : In-loop-f) → c.before.loop.f < 63
+here : (c : In-loop-f) → c.loop-f.f < 63
 here c = omega (arith, few (goal.at.In-loop-f c).Start, c.loop-f-test.true)
 
 pub offset_bounds-shares-f : goal.offset_bounds-shares-f
@@ -50,7 +50,7 @@ offset_bounds-shares-f-in-loop-f c = omega (arith, here c)
 pub bounds-shares-f-in-loop-f : goal.bounds-shares-f-in-loop-f
 bounds-shares-f-in-loop-f c = here c
 
-zeros : (c : In-loop-f) → let l = c.before.loop in get_or (set l.shares l.f (zero_e 6)) l.f [] ≡ zero_e 6
+zeros : (c : In-loop-f) → let l = c.loop-f in get_or (set l.shares l.f (zero_e 6)) l.f [] ≡ zero_e 6
 zeros c = let l = c.loop-f in get_or-set_same l.shares l.f (zero_e 6) [] (omega (arith, l.invariant.1, here c))
 
 book : (s : Start) → s.args.h.params.d ≤ 6
@@ -69,7 +69,7 @@ loop-f-preserved c =
     let s = (goal.at.In-loop-f i).Start in
     let a = s.args in
     let r = c.add_run-seen in
-    let v = r.new.1.1.1.1.1.0 in
+    let v = r.new.running in
     let e : set (set l.shares l.f (zero_e 6)) l.f v ≡ set l.shares l.f v = set-set l.shares l.f (zero_e 6) v in
     let q : v ≡ row s l.f =
     r.ensures.1

@@ -19,7 +19,7 @@ use Rattle.totals.proofs.Runs.{run-held}
 use Rattle.archive.proofs.load_run.Given as goal
 
 abbrev pub invariant-loop-f : goal.invariant-loop-f
-invariant-loop-f l =     (l.f ≤ l.files) × (length l.shares ≡ 63) × (in_width l.h.params.k l.seen ≡ every (λ g. run_in_width l.bytes g l.a (l.b - l.a)) l.f)
+invariant-loop-f l = (l.f ≤ l.files) × (length l.shares ≡ 63) × (in_width l.h.params.k l.seen ≡ every (λ g. run_in_width l.bytes g l.a (l.b - l.a)) l.f)
     × (l.shares ≡ filled (λ g. held l.h.params.d (run_total l.bytes g l.a (l.b - l.a))) l.files l.initial.shares l.f)
 
 abbrev pub decreases-loop-f : goal.decreases-loop-f

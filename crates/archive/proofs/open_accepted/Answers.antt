@@ -17,7 +17,7 @@ use Rattle.archive.specs.Archive.{shares_at, place_opening}
 use Rattle.archive.proofs.Ahead.{Passed, passed}
 use Rattle.archive.proofs.Loaded.{arrays, askable}
 use Rattle.archive.proofs.open_accepted.Goals as goal
-use Rattle.archive.proofs.open_accepted.Goals.{After-hand_out, After-hand_out-arg-1, After-place_opening-opened, Start}
+use Rattle.archive.proofs.open_accepted.Goals.{After-hand_out, After-place_opening-opened, Start}
 
 abbrev bs : Start → List ℕ
 bs s = s.args.bytes.now
@@ -61,13 +61,13 @@ hands : (a : After-place_opening-opened) → let p = a.args.h.params in
 hands a =
     let p = a.args.h.params in
     let e = a.place_opening-opened.ensures in
-    handed p.k p.d p.t (ss (goal.at.After-place_opening-opened a).Start) a.place_opening-opened.result.fault (rows a) a.place_opening-opened.result.wrong (O (goal.at.After-place_opening-opened a).Start) e.1.1.1 e.0
-    e.1.0
+    handed p.k p.d p.t (ss (goal.at.After-place_opening-opened a).Start) a.place_opening-opened.result.fault (rows a) a.place_opening-opened.result.wrong (O (goal.at.After-place_opening-opened a).Start) e.shaped e.opening
+    e.wrong
 
 pub hand_out-requires : goal.hand_out-requires
 hand_out-requires c =
-    let a = (goal.at.hand_out-requires c).After-hand_out-arg-1 in
-    let s = (goal.at.After-hand_out-arg-1 a).Start in
+    let a = (goal.at.hand_out-requires c).After-place_opening-opened in
+    let s = (goal.at.After-place_opening-opened a).Start in
     let d = ap (λ (h : Heading). h.params.d) s.requires.1 in
     let k = askable (bs s) s.args.h s.requires.1 s.args.files s.requires.2 (fine s).no_fault (shares a) in (
       k.0,
@@ -84,19 +84,15 @@ hand_out-requires c =
 pub returns : goal.returns
 returns c =
     let g = (goal.at.returns c).After-hand_out in
-    let a = (goal.at.After-hand_out g).After-hand_out-arg-1 in
-    let s = (goal.at.After-hand_out-arg-1 a).Start in
+    let a = (goal.at.After-hand_out g).After-place_opening-opened in
+    let s = (goal.at.After-place_opening-opened a).Start in
     let h = rw a.place_opening-opened.ensures.shares at g.hand_out.ensures in
     let x = hands a in
-    let into : (j : Heading → List ℕ) → j s.args.h ≡ j (bundle_heading (bs s)) = λ j. ap j s.requires.1 in (
-      h.0 ∙ x.fault,
-      (
-        h.1.0 ∙ x.secret s.args.out.now,
-        (
-          h.1.1.0 ∙ x.wrong s.args.wrong.now
-              ∙ into (λ (y : Heading). wrong_into y.params.k y.params.d (ss s) s.args.wrong.now (O s)),
-          h.1.1.1 ∙ x.lowest s.args.lowest.now
-              ∙ into (λ (y : Heading). lowest_into y.params.k y.params.d (ss s) s.args.lowest.now (O s)),
-        ),
-      ),
-    )
+    let into : (j : Heading → List ℕ) → j s.args.h ≡ j (bundle_heading (bs s)) = λ j. ap j s.requires.1 in record {
+      fault = h.fault ∙ x.fault;
+      out = h.out ∙ x.secret s.args.out.now;
+      wrong = h.wrong ∙ x.wrong s.args.wrong.now
+          ∙ into (λ (y : Heading). wrong_into y.params.k y.params.d (ss s) s.args.wrong.now (O s));
+      lowest = h.lowest ∙ x.lowest s.args.lowest.now
+          ∙ into (λ (y : Heading). lowest_into y.params.k y.params.d (ss s) s.args.lowest.now (O s));
+    }

@@ -12,7 +12,7 @@ returns-then-accepted-ne0 c =
     let r = c.accept_place-accepted in
     rw (place-declines s.bytes.now s.place (length s.out.now) (length s.wrong.now) (length s.lowest.now) r.result.fault
     r.ensures.0 c.if-accepted-ne0.true)
-    (refl, (refl, (refl, refl)))
+    (record { fault = refl; out = refl; wrong = refl; lowest = refl })
 
 pub open_accepted-requires : goal.open_accepted-requires
 open_accepted-requires c =

@@ -21,7 +21,7 @@ use Rattle.archive.specs.Archive.{shares_over, outputs_fault, run_opening, open_
 use Rattle.archive.proofs.Calls.{call-refused, call-declined, call_opens, call-outputs, call-rest}
 use Rattle.archive.proofs.Loaded.{arrays, askable}
 use Rattle.archive.proofs.open_run.Goals as goal
-use Rattle.archive.proofs.open_run.Goals.{After-first-fault, After-hand_out, After-hand_out-arg-1, After-run_opening-opened, Start}
+use Rattle.archive.proofs.open_run.Goals.{After-first-fault, After-hand_out, After-run_opening-opened, Start}
 
 abbrev bs : Start → List ℕ
 bs s = s.args.bytes.now
@@ -62,7 +62,7 @@ unfolding open_run
 returns-then-accepted-ne0 c =
     let s = (goal.at.returns-then-accepted-ne0 c).Start in
     let r = c.accept-accepted in
-    rw (call-refused (bs s) r.result r.ensures (n s) (w s) (l s) (rest s) (O s) c.if-accepted-ne0.true) (refl, (refl, (refl, refl)))
+    rw (call-refused (bs s) r.result r.ensures (n s) (w s) (l s) (rest s) (O s) c.if-accepted-ne0.true) (record { fault = refl; out = refl; wrong = refl; lowest = refl })
 
 pub returns-then-fault-ne0 : goal.returns-then-fault-ne0
 unfolding open_run
@@ -70,7 +70,7 @@ returns-then-fault-ne0 c =
     let f = (goal.at.returns-then-fault-ne0 c).After-first-fault in
     let s = (goal.at.After-first-fault f).Start in
     rw (call-declined (bs s) (R f) (is-accepted f) (n s) (w s) (l s) (rest s) (O s) (whole f) f.first-fault.result (told f) c.if-fault-ne0.true)
-    (refl, (refl, (refl, refl)))
+    (record { fault = refl; out = refl; wrong = refl; lowest = refl })
 
 -- none of them applies
 no_fault : (f : After-first-fault) → bundle_fault (bs (goal.at.After-first-fault f).Start) ≡ 0
@@ -105,13 +105,13 @@ hands a =
     let f = (goal.at.After-run_opening-opened a).After-first-fault in
     let p = (R f).heading.params in
     let e = a.run_opening-opened.ensures in
-    handed p.k p.d p.t (ss (goal.at.After-first-fault f).Start) a.run_opening-opened.result.fault (rows a) a.run_opening-opened.result.wrong (O (goal.at.After-first-fault f).Start) e.1.1.1 e.0
-    e.1.0
+    handed p.k p.d p.t (ss (goal.at.After-first-fault f).Start) a.run_opening-opened.result.fault (rows a) a.run_opening-opened.result.wrong (O (goal.at.After-first-fault f).Start) e.shaped e.opening
+    e.wrong
 
 pub hand_out-requires : goal.hand_out-requires
 hand_out-requires c =
-    let a = (goal.at.hand_out-requires c).After-hand_out-arg-1 in
-    let f = (goal.at.After-hand_out-arg-1 a).After-first-fault in
+    let a = (goal.at.hand_out-requires c).After-run_opening-opened in
+    let f = (goal.at.After-run_opening-opened a).After-first-fault in
     let s = (goal.at.After-first-fault f).Start in
     let e = a.run_opening-opened.ensures.shares in
     let o =
@@ -131,21 +131,17 @@ pub returns : goal.returns
 unfolding open_run
 returns c =
     let g = (goal.at.returns c).After-hand_out in
-    let a = (goal.at.After-hand_out g).After-hand_out-arg-1 in
-    let f = (goal.at.After-hand_out-arg-1 a).After-first-fault in
+    let a = (goal.at.After-hand_out g).After-run_opening-opened in
+    let f = (goal.at.After-run_opening-opened a).After-first-fault in
     let s = (goal.at.After-first-fault f).Start in
     let h = rw a.run_opening-opened.ensures.shares at g.hand_out.ensures in
     let x = hands a in
     let into : (j : Heading → List ℕ) → j (R f).heading ≡ j (bundle_heading (bs s)) = λ j. ap j (heading f) in
-    rw (call_opens (bs s) (R f) (is-accepted f) (n s) (w s) (l s) (rest s) (O s) (whole f) f.first-fault.result (told f) c.if-fault-ne0.false) (
-      h.0 ∙ x.fault,
-      (
-        h.1.0 ∙ x.secret s.args.out.now,
-        (
-          h.1.1.0 ∙ x.wrong s.args.wrong.now
-              ∙ into (λ (y : Heading). wrong_into y.params.k y.params.d (ss s) s.args.wrong.now (O s)),
-          h.1.1.1 ∙ x.lowest s.args.lowest.now
-              ∙ into (λ (y : Heading). lowest_into y.params.k y.params.d (ss s) s.args.lowest.now (O s)),
-        ),
-      ),
-    )
+    rw (call_opens (bs s) (R f) (is-accepted f) (n s) (w s) (l s) (rest s) (O s) (whole f) f.first-fault.result (told f) c.if-fault-ne0.false) (record {
+      fault = h.fault ∙ x.fault;
+      out = h.out ∙ x.secret s.args.out.now;
+      wrong = h.wrong ∙ x.wrong s.args.wrong.now
+          ∙ into (λ (y : Heading). wrong_into y.params.k y.params.d (ss s) s.args.wrong.now (O s));
+      lowest = h.lowest ∙ x.lowest s.args.lowest.now
+          ∙ into (λ (y : Heading). lowest_into y.params.k y.params.d (ss s) s.args.lowest.now (O s));
+    })

@@ -14,7 +14,7 @@ use Rattle.totals.proofs.Words.{words_length}
 use Rattle.archive.specs.Archive.{shares_at, place_opening}
 use Rattle.archive.proofs.Loaded.{arrays, loaded, loaded-sized, loaded-width, loaded-length, place-width}
 use Rattle.archive.proofs.place_opening.Goals as goal
-use Rattle.archive.proofs.place_opening.Goals.{After-load_place-arg-1, After-load_place-seen, Start}
+use Rattle.archive.proofs.place_opening.Goals.{After-load_place-seen, Start}
 
 abbrev bs : Start → List ℕ
 bs s = s.args.bytes.now
@@ -43,10 +43,10 @@ stands l =
 
 pub decode_files-requires : goal.decode_files-requires
 decode_files-requires c =
-    let l = (goal.at.decode_files-requires c).After-load_place-arg-1 in
-    let s = (goal.at.After-load_place-arg-1 l).Start in
+    let l = (goal.at.decode_files-requires c).After-load_place-seen in
+    let s = (goal.at.After-load_place-seen l).Start in
     let h = s.args.h in
-    let r = l.load-place in (
+    let r = l.load_place-seen in (
       s.requires.0,
       s.requires.1,
       s.requires.2,
@@ -61,10 +61,10 @@ decode_files-requires c =
 pub returns : goal.returns
 unfolding place_opening
 returns c =
-    let l = (goal.at.returns c).After-load_place-arg-1 in
-    let s = (goal.at.After-load_place-arg-1 l).Start in
+    let l = (goal.at.returns c).After-load_place-seen in
+    let s = (goal.at.After-load_place-seen l).Start in
     let h = s.args.h in
     let d = c.decode_files.ensures in
-    let same = loaded (bs s) h s.requires.1 s.args.files s.requires.2 (words s) (long s) (rows l) (rest s) l.load-place.ensures.1 in
+    let same = loaded (bs s) h s.requires.1 s.args.files s.requires.2 (words s) (long s) (rows l) (rest s) l.load_place-seen.ensures.1 in
     let o = ap (answer_to (params_of (bs s)) (allowance_of (bs s))) same in
-    (d.0 ∙ o, (d.1.0 ∙ ap₂ (wrong_of h.params.k h.params.d) same o, (stands l, d.1.1)))
+    record { opening = d.opening ∙ o; wrong = d.wrong ∙ ap₂ (wrong_of h.params.k h.params.d) same o; shares = stands l; shaped = d.shaped }

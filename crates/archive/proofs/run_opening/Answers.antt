@@ -4,7 +4,6 @@ use mathlib.Core.Path.{◌≡◌, refl, sym, ap, ap₂, ◌∙◌}
 use mathlib.Core.List.{List}
 use Prim.Native.Nat.{ℕ, ◌-◌}
 use lib.ListN.{length, drop}
-use borrow.Author.Tests.{not-true, not-false}
 use Rattle.galois.specs.Element.{Element}
 use Rattle.polynomial.specs.Rows.{Rows}
 use Rattle.codewords.specs.Opening.{wrong_of, answer_to}
@@ -16,7 +15,7 @@ use Rattle.archive.specs.Archive.{shares_over}
 use Rattle.archive.proofs.Loaded.{arrays, loaded, loaded-sized, loaded-width, loaded-length, run-declines, run-answers}
 use Rattle.archive.proofs.Shares.{total-element}
 use Rattle.archive.proofs.run_opening.Goals as goal
-use Rattle.archive.proofs.run_opening.Goals.{After-load_run-arg-1, After-load_run-seen, Start}
+use Rattle.archive.proofs.run_opening.Goals.{After-load_run-seen, Start}
 
 abbrev bs : Start → List ℕ
 bs s = s.args.bytes.now
@@ -48,15 +47,15 @@ returns-then-not-in_width c =
     let l = (goal.at.returns-then-not-in_width c).After-load_run-seen in
     let s = (goal.at.After-load_run-seen l).Start in
     let z = run-declines (bs s) s.args.a (s.args.b - s.args.a)
-    (sym l.load_run-seen.ensures.0 ∙ sym c.in_width.ensures ∙ not-true _ c.if-not-in_width.true) in
-    rw z (refl, (refl, (stands l, s.requires.7)))
+    (sym l.load_run-seen.ensures.0 ∙ sym c.in_width.ensures ∙ c.if-not-in_width.true) in
+    rw z (record { opening = refl; wrong = refl; shares = stands l; shaped = s.requires.7 })
 
 pub decode_files-requires : goal.decode_files-requires
 decode_files-requires c =
-    let l = (goal.at.decode_files-requires c).After-load_run-arg-1 in
-    let s = (goal.at.After-load_run-arg-1 l).Start in
+    let l = (goal.at.decode_files-requires c).After-load_run-seen in
+    let s = (goal.at.After-load_run-seen l).Start in
     let h = s.args.h in
-    let r = l.load-run in (
+    let r = l.load_run-seen in (
       s.requires.0,
       s.requires.1,
       s.requires.2,
@@ -70,12 +69,12 @@ decode_files-requires c =
 
 pub returns : goal.returns
 returns c =
-    let l = (goal.at.returns c).After-load_run-arg-1 in
-    let s = (goal.at.After-load_run-arg-1 l).Start in
+    let l = (goal.at.returns c).After-load_run-seen in
+    let s = (goal.at.After-load_run-seen l).Start in
     let h = s.args.h in
     let d = c.decode_files.ensures in
-    let same = loaded (bs s) h s.requires.1 s.args.files s.requires.2 (words s) (long s) (rows l) (rest s) l.load-run.ensures.1 in
+    let same = loaded (bs s) h s.requires.1 s.args.files s.requires.2 (words s) (long s) (rows l) (rest s) l.load_run-seen.ensures.1 in
     let o = ap (answer_to (params_of (bs s)) (allowance_of (bs s))) same
     ∙ sym (run-answers (bs s) s.args.a (s.args.b - s.args.a)
-    (sym l.load-run.ensures.0 ∙ sym c.in_width.ensures ∙ not-false _ c.if-not-in_width.false)) in
-    (d.0 ∙ o, (d.1.0 ∙ ap₂ (wrong_of h.params.k h.params.d) same o, (stands l, d.1.1)))
+    (sym l.load_run-seen.ensures.0 ∙ sym c.in_width.ensures ∙ c.if-not-in_width.false)) in
+    record { opening = d.opening ∙ o; wrong = d.wrong ∙ ap₂ (wrong_of h.params.k h.params.d) same o; shares = stands l; shaped = d.shaped }
