@@ -10,7 +10,7 @@ use Rattle.archive.specs.Archive.{place_opening}
 use Rattle.desk.specs.Desk.{closed_fault, desk_fault, desk_opening}
 use Rattle.desk.proofs.Laws.{ahead, desk-high, desk-fits, desk-declines, desk-opens, place-proper, count-declined, count-opened}
 use Rattle.desk.proofs.open_by.Goals as goal
-use Rattle.desk.proofs.open_by.Goals.{After-open_accepted-arg-1, After-open_accepted-outcome, After-step-stepped, After-struct_known-1, Start}
+use Rattle.desk.proofs.open_by.Goals.{After-open_accepted-outcome, After-step-stepped, Else-stepped-ne0, Start}
 
 abbrev n : Start → ℕ
 n s = length s.args.out.now
@@ -60,8 +60,8 @@ passed k z = first-left _ _ (sym k.step-stepped.ensures.0 ∙ z)
 
 pub open_accepted-outcome-requires : goal.open_accepted-outcome-requires
 open_accepted-outcome-requires c =
-    let e = (goal.at.open_accepted-outcome-requires c).After-open_accepted-arg-1 in
-    let k = (goal.at.After-open_accepted-arg-1 e).After-struct_known-1 in
+    let e = (goal.at.open_accepted-outcome-requires c).Else-stepped-ne0 in
+    let k = (goal.at.Else-stepped-ne0 e).After-step-stepped in
     let z = passed k e.if-stepped-ne0.false in
     let r = k.accept_place-accepted.ensures in
     let h = r.1 z in
@@ -79,22 +79,22 @@ opened k z =
 pub returns-then-outcome-eq0 : goal.returns-then-outcome-eq0
 returns-then-outcome-eq0 c =
     let g = (goal.at.returns-then-outcome-eq0 c).After-open_accepted-outcome in
-    let e = (goal.at.After-open_accepted-outcome g).After-open_accepted-arg-1 in
-    let k = (goal.at.After-open_accepted-arg-1 e).After-struct_known-1 in
-    let t = (goal.at.After-struct_known-1 k).Start in
+    let e = (goal.at.After-open_accepted-outcome g).Else-stepped-ne0 in
+    let k = (goal.at.Else-stepped-ne0 e).After-step-stepped in
+    let t = (goal.at.After-step-stepped k).Start in
     let s = t.args in
     let x = g.open_accepted-outcome.ensures in
     let n = k.step-stepped.ensures.1 ∙ kept-none _ _ _ (sym k.step-stepped.ensures.0 ∙ e.if-stepped-ne0.false) in
     rw (opened k e.if-stepped-ne0.false)
-    (x.0, n ∙ count-opened _ _ (O t) (place-proper s.bytes.now s.place) x.0 c.if-outcome-eq0.true, x.1.0, x.1.1.0, x.1.1.1)
+    (x.fault, n ∙ count-opened _ _ (O t) (place-proper s.bytes.now s.place) x.fault c.if-outcome-eq0.true, x.out, x.wrong, x.lowest)
 
 pub returns : goal.returns
 returns c =
     let g = (goal.at.returns c).After-open_accepted-outcome in
-    let e = (goal.at.After-open_accepted-outcome g).After-open_accepted-arg-1 in
-    let k = (goal.at.After-open_accepted-arg-1 e).After-struct_known-1 in
-    let t = (goal.at.After-struct_known-1 k).Start in
+    let e = (goal.at.After-open_accepted-outcome g).Else-stepped-ne0 in
+    let k = (goal.at.Else-stepped-ne0 e).After-step-stepped in
+    let t = (goal.at.After-step-stepped k).Start in
     let s = t.args in
     let x = g.open_accepted-outcome.ensures in
     rw (opened k e.if-stepped-ne0.false)
-    (x.0, count-declined _ _ (O t) x.0 c.if-outcome-eq0.false, x.1.0, x.1.1.0, x.1.1.1)
+    (x.fault, count-declined _ _ (O t) x.fault c.if-outcome-eq0.false, x.out, x.wrong, x.lowest)

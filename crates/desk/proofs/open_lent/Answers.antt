@@ -12,7 +12,7 @@ returns-then-desk-ne2 c =
     let s = c.args in
     rw (lent-declines s.desk.now s.bytes.now s.place (length s.out.now) (length s.wrong.now) (length s.lowest.now)
     (λ e. omega (arith, e)))
-    (refl, (refl, (refl, (refl, refl))))
+    (record { fault = refl; desk = refl; out = refl; wrong = refl; lowest = refl })
 
 pub returns : goal.returns
 returns c =
@@ -22,4 +22,4 @@ returns c =
     let x = c.open_by-done.ensures in
     rw (lent-opens s.desk.now s.bytes.now s.place (length s.out.now) (length s.wrong.now) (length s.lowest.now)
     (omega arith))
-    (x.0, (ap (set s.desk.now 1) x.1 ∙ record-set s.desk.now o (omega arith), (x.2, (x.3, x.4))))
+    (record { fault = x.0; desk = ap (set s.desk.now 1) x.1 ∙ record-set s.desk.now o (omega arith); out = x.2; wrong = x.3; lowest = x.4 })
