@@ -2,9 +2,9 @@
 -- `unpositioned`), and it is the lowest bit at which its share differs from the polynomial's value (`all-positions`). And as code finds them, a share
 -- at a time: none at first (`positions-none`), a share that differs puts in its own (`positions-put`), and one that does not leaves all as they are
 -- (`positions-kept`). Assumes nothing.
-use mathlib.Core.Path.{◌≡◌, refl, sym, ◌∙◌, ap, ap₂, subst}
+use mathlib.Core.Path.{◌≡◌, refl, sym, ◌∙◌, ap, subst}
 use mathlib.Core.Bool.{Bool, true, false, cond}
-use mathlib.Core.Logic.{◌≢◌, ◌↔◌, ◌⊎◌, inl, inr, ⊎_elim}
+use mathlib.Core.Logic.{◌≢◌, ◌↔◌, ◌⊎◌, inl, inr}
 use mathlib.Core.List.Memᴰ
 use mathlib.Core.List.{List, [], ◌∷◌, Memᴰ}
 use Prim.Native.Nat.{ℕ, zero, suc, ◌+◌, ◌-◌, ◌/◌, ◌%◌, ◌^◌, ◌≤◌, ◌<◌}
@@ -26,10 +26,10 @@ use Rattle.algebra.specs.Shares.{All}
 use Rattle.algebra.proofs.Shares.{all_map}
 use Rattle.galois.specs.Element.{Element, point, reduce}
 use Rattle.galois.proofs.Narrow.{reduce-at}
-use Rattle.comparison.specs.Comparison.{compared, unequal, position_of, LowestBit}
+use Rattle.comparison.specs.Comparison.{position_of, LowestBit}
 use Rattle.comparison.specs.declared.Comparison.TheVariants.{None}
 use Rattle.comparison.proofs.Compared.{none-position, some-position, position-byte, lowest_bit, lowest-room}
-use Rattle.codewords.specs.Codeword.{Share, Polynomial, value, comparison, differs, wide, comparison_of, positions_from, positions}
+use Rattle.codewords.specs.Codeword.{Share, Polynomial, value, comparison, differs, comparison_of, positions_from, positions}
 use Rattle.codewords.specs.Demand.{Wrong, position_for, value_at, Positions}
 use Rattle.codewords.specs.WellFormed.{IsElement, IsPoly, InWidth, Different, Holders}
 use Rattle.codewords.proofs.ErrorSet.{Has, look, all_in}

@@ -3,7 +3,7 @@
 -- shares differ (`tells-lowest`). Assumes nothing.
 use mathlib.Core.Path.{◌≡◌, refl, sym, ◌∙◌, ap, subst}
 use mathlib.Core.Bool.{Bool, true, false, true≢false, not, ◌||◌}
-use mathlib.Core.Logic.{◌⊎◌, inl, inr, ⊎_elim}
+use mathlib.Core.Logic.{inl, inr, ⊎_elim}
 use mathlib.Core.List.{List, [], ◌∷◌, Memᴰ}
 use Prim.Native.Nat.{ℕ, ◌+◌, ◌*◌, ◌^◌, ◌≤◌, ◌<◌}
 use native.Mathlib.Decide.{dec_le, ℕ_discrete}
@@ -16,7 +16,7 @@ use Rattle.words.specs.Refusal.{TOO_FEW_SHARES, NO_CODEWORD}
 use Rattle.words.specs.declared.Params.{Params}
 use Rattle.words.proofs.InRange.{InRange, ok-range}
 use Rattle.codewords.specs.Codeword.{Share, Polynomial, error_set, positions, wide}
-use Rattle.codewords.specs.Demand.{Within, NoneWithin, Decides, Outputs, Returned, EnoughShares, TooFewShares, Wrong, bit_for, Exact, Tells, TellsWide, Positions, TellsLowest}
+use Rattle.codewords.specs.Demand.{Within, NoneWithin, Decides, Outputs, Returned, EnoughShares, TooFewShares, bit_for, Exact, Tells, TellsWide, Positions, TellsLowest}
 use Rattle.codewords.specs.Opening.{Opening, declines, opens, fault_of, secret_into, wrong_into, lowest_into, unless_fault, answer_to}
 use Rattle.codewords.specs.WellFormed.{InWidth, Holders}
 use Rattle.codewords.proofs.ErrorSet.{bit-wrong, bit-right}

@@ -4,7 +4,7 @@
 use mathlib.Core.Path.{◌≡◌, refl, sym, ◌∙◌, ap, ap₂}
 use mathlib.Core.Bool.{Bool, true, false, not}
 use mathlib.Core.Logic.{◌≢◌}
-use mathlib.Core.List.{List, [], ◌∷◌, ◌++◌}
+use mathlib.Core.List.{[], ◌∷◌, ◌++◌}
 use Prim.Native.Nat.{ℕ, zero, suc, ◌+◌, ◌*◌, ◌-◌, ◌/◌, ◌%◌, ◌^◌, ◌≤◌, ◌<◌}
 use native.Mathlib.Nat.{mod-lt, div-one, div-div-eq-div-mul, pow-succ', pow-suc, pow-le-pow_right, zero-div, suc_inj, suc-ne-zero, le_of_eq}
 use native.Mathlib.Numerals.{add-one}
@@ -14,7 +14,7 @@ use lib.Bits.{bit_or, bit_xor, or_zero_l, or_zero_r, or_lt, or_shr, or_mod, or_a
 use lib.Count.{count_trailing_zeros, trailing_le, under}
 use lib.Dec.{lit<}
 use lib.Pow.{pow_pos, shr_lt, split}
-use lib.ListN.{length, take, drop, get_or}
+use lib.ListN.{length, get_or}
 use lib.Seq.{take_all}
 use Rattle.words.specs.Word.{in_width, all_in_width}
 use Rattle.words.proofs.Width.{in-width-lt}

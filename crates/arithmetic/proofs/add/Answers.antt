@@ -9,7 +9,6 @@ use Rattle.words.specs.Word.{add_w}
 use Rattle.galois.specs.Element.{sum, held}
 use Rattle.galois.proofs.Lists.{length-zip}
 use Rattle.galois.proofs.Held.{sum-held}
-use borrow.Author.Rules.{rules}
 use Rattle.arithmetic.proofs.add.Goals as goal
 use Rattle.arithmetic.proofs.add.Goals.{Else-fault-ne0, Start}
 

@@ -8,7 +8,6 @@ use Rattle.arithmetic.specs.Calls.{operand_fault}
 use Rattle.galois.proofs.Inverse.{length-inverse}
 use Rattle.galois.proofs.Held.{held-take}
 use Rattle.arithmetic.proofs.Calls.{Clear, clear, one-operand, declined, wrote}
-use borrow.Author.Rules.{rules}
 use Rattle.arithmetic.proofs.invert.Goals as goal
 use Rattle.arithmetic.proofs.invert.Goals.{Else-fault-ne0, Start}
 

@@ -6,7 +6,6 @@ use lib.ListN.{length}
 use Rattle.words.proofs.Refusal.{kept-none}
 use Rattle.arithmetic.specs.Calls.{operands_fault}
 use Rattle.arithmetic.proofs.Calls.{Clear, clear, declined}
-use borrow.Author.Rules.{rules}
 use Rattle.arithmetic.proofs.multiply.Goals as goal
 use Rattle.arithmetic.proofs.multiply.Goals.{Else-fault-ne0, Start}
 

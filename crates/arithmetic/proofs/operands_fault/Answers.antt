@@ -1,5 +1,4 @@
 -- `arithmetic::operands_fault` meets its contract: the parameters and the lengths, and then the widths. Assumes nothing.
-use borrow.Author.Rules.{rules}
 use mathlib.Core.Path.{◌≡◌, sym, ap, ap₂, ◌∙◌}
 use Prim.Native.Nat.{ℕ}
 use lib.ListN.{length}

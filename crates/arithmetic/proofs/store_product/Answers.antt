@@ -1,7 +1,6 @@
 -- `arithmetic::store_product` meets its contract: in each arm that of `store_product_by` at that d. Assumes nothing.
 use native.Mathlib.Omega.{arith}
 use Rattle.words.proofs.InRange.{six}
-use borrow.Author.Rules.{rules}
 use Rattle.arithmetic.proofs.store_product.Goals as goal
 
 pub returns-in-2 : goal.returns-in-2

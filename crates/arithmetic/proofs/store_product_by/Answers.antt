@@ -7,7 +7,6 @@ use Rattle.galois.proofs.Table.{length-lower}
 use Rattle.galois.proofs.Lists.{length-product}
 use Rattle.galois.proofs.Held.{held-take}
 use Rattle.ring.proofs.Stored.{stored}
-use borrow.Author.Rules.{rules}
 use Rattle.arithmetic.proofs.store_product_by.Goals as goal
 
 pub returns : goal.returns

@@ -1,10 +1,9 @@
 -- `comparison::compare` meets its contract. Assumes nothing.
 use native.Mathlib.Omega.{arith}
-use mathlib.Core.Path.{◌≡◌, sym, ◌∙◌, ap}
+use mathlib.Core.Path.{sym, ◌∙◌, ap}
 use lib.Count.{count_trailing_zeros, trailing_le}
 use Rattle.comparison.specs.declared.Comparison.TheVariants.{Lowest}
 use Rattle.comparison.proofs.Compared.{compared-none, compared-some}
-use borrow.Author.Rules.{rules}
 use Rattle.comparison.proofs.compare.Goals as goal
 
 pub returns-then-bits-eq0 : goal.returns-then-bits-eq0

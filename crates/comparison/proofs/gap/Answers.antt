@@ -3,7 +3,6 @@ use native.Mathlib.Omega.{arith}
 use mathlib.Core.Path.{◌≡◌}
 use lib.ListN.{length}
 use Rattle.comparison.proofs.Compared.{gap-six}
-use borrow.Author.Rules.{rules}
 use Rattle.comparison.proofs.gap.Goals as goal
 
 pub returns : goal.returns

@@ -1,6 +1,5 @@
 -- `level::choose` meets its contract. Assumes nothing.
 use native.Mathlib.Omega.{arith}
-use borrow.Author.Rules.{rules}
 use borrow.Author.Tests.{le-leb, lt-leb}
 use Rattle.level.proofs.choose.Goals as goal
 

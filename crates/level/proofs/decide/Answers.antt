@@ -1,6 +1,5 @@
 -- `level::decide` meets its contract: the lanes are the shares of one bit, and the verdict is the codeword's. Assumes nothing.
 use native.Mathlib.Omega.{arith}
-use borrow.Author.Rules.{rules}
 use lib.Count.{ones-le}
 use Rattle.level.proofs.Decision.{rows-length, numbered, holders-length, decides-few, decides-found, decides-none}
 use Rattle.level.proofs.decide.Goals as goal

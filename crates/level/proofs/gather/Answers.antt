@@ -1,9 +1,7 @@
 -- `level::gather` meets its contract: after each turn the shares passed are looked at. Assumes nothing.
 use native.Mathlib.Omega.{arith}
-use borrow.Author.Rules.{rules}
-use mathlib.Core.Path.{◌≡◌, ap}
-use Prim.Native.Nat.{◌-◌, ◌≤◌}
-use Rattle.level.specs.Interpolation.{Newton, newton_of, gather_lanes}
+use mathlib.Core.Path.{ap}
+use Rattle.level.specs.Interpolation.{Newton}
 use Rattle.level.proofs.Turns.{gather-start, gather-turn, gather-end}
 use Rattle.level.proofs.gather.Goals as goal
 use Rattle.level.proofs.gather.Goals.{At-loop-i}

@@ -1,10 +1,7 @@
 -- `level::gather` meets its contract: after each turn the shares passed are looked at. Assumes nothing.
-use native.Mathlib.Omega.{arith}
-use borrow.Author.Rules.{rules}
-use mathlib.Core.Path.{◌≡◌, ap}
+use mathlib.Core.Path.{◌≡◌}
 use Prim.Native.Nat.{◌-◌, ◌≤◌}
-use Rattle.level.specs.Interpolation.{Newton, newton_of, gather_lanes}
-use Rattle.level.proofs.Turns.{gather-start, gather-turn, gather-end}
+use Rattle.level.specs.Interpolation.{newton_of, gather_lanes}
 use Rattle.level.proofs.gather.Given as goal
 
 abbrev pub invariant-loop-i : goal.invariant-loop-i

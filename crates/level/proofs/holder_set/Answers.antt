@@ -1,9 +1,8 @@
 -- `level::holder_set` meets its contract: after each turn it is the set of the places passed. Assumes nothing.
 use native.Mathlib.Omega.{arith}
 use borrow.Author.Tests.{ne_eqb}
-use borrow.Author.Rules.{rules}
 use mathlib.Core.Path.{◌≡◌, ◌∙◌}
-use Prim.Native.Nat.{◌-◌, ◌≤◌}
+use Prim.Native.Nat.{◌-◌}
 use Rattle.level.specs.Shares.{holder_set}
 use Rattle.level.proofs.Turns.{set-start, set-in, set_out}
 use Rattle.level.proofs.holder_set.Goals as goal

@@ -1,11 +1,7 @@
 -- `level::holder_set` meets its contract: after each turn it is the set of the places passed. Assumes nothing.
-use native.Mathlib.Omega.{arith}
-use borrow.Author.Tests.{ne_eqb}
-use borrow.Author.Rules.{rules}
-use mathlib.Core.Path.{◌≡◌, ◌∙◌}
+use mathlib.Core.Path.{◌≡◌}
 use Prim.Native.Nat.{◌-◌, ◌≤◌}
 use Rattle.level.specs.Shares.{holder_set}
-use Rattle.level.proofs.Turns.{set-start, set-in, set_out}
 use Rattle.level.proofs.holder_set.Given as goal
 
 abbrev pub invariant-loop-i : goal.invariant-loop-i

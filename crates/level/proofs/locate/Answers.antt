@@ -1,10 +1,9 @@
 -- `level::locate` meets its contract: after each turn the pairs are those of the shares passed. Assumes nothing.
 use native.Mathlib.Omega.{arith}
-use borrow.Author.Rules.{rules}
 use mathlib.Core.Path.{◌∙◌, ap}
 use Rattle.sliced.specs.Lane.{support_of}
-use Rattle.level.specs.KeyEquation.{Pairs, pairs_of}
-use Rattle.level.proofs.Turns.{Ran, run-start, run-turn, run_end}
+use Rattle.level.specs.KeyEquation.{Pairs}
+use Rattle.level.proofs.Turns.{run-start, run-turn, run_end}
 use Rattle.level.proofs.locate.Goals as goal
 use Rattle.level.proofs.locate.Goals.{After-spread-b1, At-loop-i}
 

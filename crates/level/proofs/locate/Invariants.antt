@@ -1,10 +1,6 @@
 -- `level::locate` meets its contract: after each turn the pairs are those of the shares passed. Assumes nothing.
-use native.Mathlib.Omega.{arith}
-use borrow.Author.Rules.{rules}
-use mathlib.Core.Path.{◌∙◌, ap}
-use Rattle.sliced.specs.Lane.{support_of}
-use Rattle.level.specs.KeyEquation.{Pairs, pairs_of}
-use Rattle.level.proofs.Turns.{Ran, run-start, run-turn, run_end}
+use Rattle.level.specs.KeyEquation.{pairs_of}
+use Rattle.level.proofs.Turns.{Ran}
 use Rattle.level.proofs.locate.Given as goal
 
 abbrev pub invariant-loop-i : goal.invariant-loop-i

@@ -1,5 +1,4 @@
 -- `level::raise` meets its contract: a turn for each of the pairs' two slices. Assumes nothing.
-use borrow.Author.Rules.{rules}
 use Rattle.level.proofs.Turns.{turned}
 use Rattle.level.proofs.raise.Goals as goal
 use Rattle.level.proofs.raise.Goals.{After-plus-w, After-spread-c, After-spread-e, After-turn}

@@ -1,6 +1,5 @@
 -- `level::residue` meets its contract. Assumes nothing.
 use native.Mathlib.Omega.{arith}
-use borrow.Author.Rules.{rules}
 use mathlib.Core.Path.{◌≡◌, ◌∙◌, ap}
 use Prim.Native.Nat.{suc, ◌+◌}
 use lib.ListN.{length}

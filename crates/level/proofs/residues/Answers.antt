@@ -1,9 +1,8 @@
 -- `level::residues` meets its contract: after each turn one row more is written. Assumes nothing.
 use native.Mathlib.Omega.{arith}
-use borrow.Author.Rules.{rules}
 use mathlib.Core.Path.{◌≡◌, ◌∙◌, ap}
-use Prim.Native.Nat.{suc, ◌+◌, ◌-◌, ◌≤◌}
-use lib.ListN.{length, length-set}
+use Prim.Native.Nat.{suc, ◌+◌}
+use lib.ListN.{length-set}
 use Rattle.polynomial.specs.Rows.{coefs}
 use Rattle.level.proofs.ResidueRows.{written, rest-start, rest-turn, rest_end}
 use Rattle.level.proofs.residues.Goals as goal

@@ -1,5 +1,4 @@
 -- `level::step` meets its contract: the pair that leads decides which of its three ends is reached. Assumes nothing.
-use borrow.Author.Rules.{rules}
 use mathlib.Core.Path.{◌≡◌, ◌∙◌, ap}
 use Rattle.algebra.specs.KeyEquation.{Pivot, none, first, second}
 use Rattle.level.specs.KeyEquation.{Pairs, pairs_of, lead_of, swapped, move_lanes, step_lanes}

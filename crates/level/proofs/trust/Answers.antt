@@ -1,7 +1,6 @@
 -- `level::trust` meets its contract, at its three ends. Assumes nothing.
 use native.Mathlib.Omega.{arith}
 use borrow.Author.Tests.{ne_eqb}
-use borrow.Author.Rules.{rules}
 use mathlib.Core.Path.{◌∙◌}
 use Prim.Native.Nat.{◌+◌}
 use Rattle.level.specs.Interpolation.{Newton, newton_of}

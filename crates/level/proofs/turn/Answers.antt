@@ -1,6 +1,5 @@
 -- `level::turn` meets its contract: in each arm the contract of `turn_by` at that d. Assumes nothing.
 use native.Mathlib.Omega.{arith}
-use borrow.Author.Rules.{rules}
 use Rattle.words.proofs.InRange.{six}
 use Rattle.level.proofs.turn.Goals as goal
 

@@ -1,5 +1,4 @@
 -- `level::turn_by` meets its contract. Assumes nothing.
-use borrow.Author.Rules.{rules}
 use mathlib.Core.Path.{◌∙◌}
 use Rattle.level.proofs.turn_by.Goals as goal
 

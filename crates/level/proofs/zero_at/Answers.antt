@@ -1,5 +1,4 @@
 -- `level::zero_at` meets its contract. Assumes nothing.
-use borrow.Author.Rules.{rules}
 use Rattle.level.specs.KeyEquation.{zero_at}
 use Rattle.level.proofs.zero_at.Goals as goal
 

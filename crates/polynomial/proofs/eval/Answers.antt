@@ -7,7 +7,6 @@ use Rattle.galois.proofs.Points.{length-point}
 use Rattle.polynomial.specs.Rows.{Shaped}
 use Rattle.polynomial.proofs.Shape.{shaped-all, shaped-good}
 use Rattle.polynomial.proofs.OverRing.{narrow-value}
-use borrow.Author.Rules.{rules}
 use Rattle.polynomial.proofs.eval.Goals as goal
 use Rattle.polynomial.proofs.eval.Goals.{Start}
 

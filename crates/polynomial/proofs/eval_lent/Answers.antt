@@ -1,11 +1,10 @@
 -- `polynomial::eval_lent` meets its contract: the value in 64 bits, cut to k. Assumes nothing.
 use native.Mathlib.Omega.{arith}
-use mathlib.Core.Path.{◌≡◌, ◌∙◌}
+use mathlib.Core.Path.{◌∙◌}
 use Rattle.galois.specs.Element.{point}
 use Rattle.galois.proofs.Points.{length-point}
 use Rattle.polynomial.proofs.Shape.{shaped-all}
 use Rattle.polynomial.proofs.OverRing.{narrow-value}
-use borrow.Author.Rules.{rules}
 use Rattle.polynomial.proofs.eval_lent.Goals as goal
 
 pub eval64-requires : goal.eval64-requires

@@ -12,7 +12,6 @@ use Rattle.polynomial.proofs.OverRing.{value-length}
 use Rattle.polynomial.proofs.Shape.{shaped-all}
 use Rattle.polynomial.proofs.Turns.{excess_by, extend-calls, subtract-shaped, root-shaped}
 use Rattle.polynomial.proofs.Narrow.{extend-narrow, root-narrow}
-use borrow.Author.Rules.{rules}
 use Rattle.polynomial.proofs.extend.Goals as goal
 
 pub returns : goal.returns

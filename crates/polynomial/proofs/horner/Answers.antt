@@ -1,11 +1,10 @@
 -- `polynomial::horner` meets its contract: the loop starts at the last row, and a turn of it takes one row more. Assumes nothing.
-use borrow.Author.Rules.{rules}
 use Rattle.polynomial.proofs.Shape.{shaped-length, shaped_row}
 use native.Mathlib.Omega.{arith}
 use mathlib.Core.Path.{◌≡◌}
 use mathlib.Core.List.{[]}
-use Prim.Native.Nat.{◌-◌, ◌<◌}
-use lib.ListN.{length, take, drop, get_or}
+use Prim.Native.Nat.{◌-◌}
+use lib.ListN.{length, take, get_or}
 use Rattle.galois.specs.Element.{point, reduce}
 use Rattle.galois.proofs.Held.{word_good}
 use Rattle.galois.proofs.Points.{length-point}

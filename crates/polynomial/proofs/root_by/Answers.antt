@@ -5,10 +5,8 @@ use Rattle.words.proofs.Fill.{fill-ahead}
 use native.Mathlib.Omega.{arith}
 use mathlib.Core.Path.{◌≡◌, refl, ap, ◌∙◌}
 use mathlib.Core.List.{[], ◌∷◌}
-use Prim.Native.Nat.{◌-◌, ◌≤◌}
 use native.Mathlib.Numerals.{add-one}
 use lib.ListN.{length, get_or, replicate}
-use lib.Seq.{paste}
 use Rattle.galois.specs.Element.{point}
 use Rattle.polynomial.specs.Rows.{less_times, root_rows}
 use Rattle.polynomial.proofs.Change.{length-change, change-paste}

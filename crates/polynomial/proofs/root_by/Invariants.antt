@@ -1,22 +1,15 @@
 -- `polynomial::root_by` meets its contract: a turn of the loop writes one row more, and keeps the row that was there for the next. Assumes nothing.
-use borrow.Author.Rules.{rules}
-use Rattle.polynomial.proofs.Shape.{shaped-length, shaped_row}
-use Rattle.words.proofs.Fill.{fill-ahead}
-use native.Mathlib.Omega.{arith}
-use mathlib.Core.Path.{◌≡◌, refl, ap, ◌∙◌}
+use mathlib.Core.Path.{◌≡◌}
 use mathlib.Core.List.{[], ◌∷◌}
 use Prim.Native.Nat.{◌-◌, ◌≤◌}
-use native.Mathlib.Numerals.{add-one}
 use lib.ListN.{length, get_or, replicate}
 use lib.Seq.{paste}
 use Rattle.galois.specs.Element.{point}
-use Rattle.polynomial.specs.Rows.{less_times, root_rows}
-use Rattle.polynomial.proofs.Change.{length-change, change-paste}
-use Rattle.polynomial.proofs.Turns.{root-turn}
+use Rattle.polynomial.specs.Rows.{root_rows}
 use Rattle.polynomial.proofs.root_by.Given as goal
 
 abbrev pub invariant-loop-i : goal.invariant-loop-i
-invariant-loop-i l =     (l.i ≤ l.len) × (length l.below ≡ 6) × (l.below ≡ get_or (replicate 6 0 ∷ l.initial.p) l.i []) × (l.p ≡ paste l.initial.p 0 (root_rows 64 l.d l.len (point l.d l.x) l.initial.p) l.i)
+invariant-loop-i l = (l.i ≤ l.len) × (length l.below ≡ 6) × (l.below ≡ get_or (replicate 6 0 ∷ l.initial.p) l.i []) × (l.p ≡ paste l.initial.p 0 (root_rows 64 l.d l.len (point l.d l.x) l.initial.p) l.i)
 
 abbrev pub decreases-loop-i : goal.decreases-loop-i
 decreases-loop-i l = l.len - l.i

@@ -3,10 +3,8 @@ use borrow.Author.Rules.{rules}
 use native.Mathlib.Omega.{arith}
 use mathlib.Core.Path.{◌≡◌, refl, ◌∙◌}
 use mathlib.Core.List.{[]}
-use Prim.Native.Nat.{◌-◌, ◌≤◌}
 use lib.ListN.{length, take, get_or}
-use lib.Seq.{paste}
-use Rattle.polynomial.specs.Rows.{less_multiple, subtract_rows}
+use Rattle.polynomial.specs.Rows.{less_multiple}
 use Rattle.polynomial.proofs.Shape.{shaped-length, shaped_row}
 use Rattle.polynomial.proofs.Change.{change-paste}
 use Rattle.polynomial.proofs.Turns.{subtract-turn}

@@ -1,15 +1,9 @@
 -- `polynomial::subtract_by` meets its contract: a turn of the loop writes one row more. Assumes nothing.
-use borrow.Author.Rules.{rules}
-use native.Mathlib.Omega.{arith}
-use mathlib.Core.Path.{◌≡◌, refl, ◌∙◌}
-use mathlib.Core.List.{[]}
+use mathlib.Core.Path.{◌≡◌}
 use Prim.Native.Nat.{◌-◌, ◌≤◌}
-use lib.ListN.{length, take, get_or}
+use lib.ListN.{take}
 use lib.Seq.{paste}
-use Rattle.polynomial.specs.Rows.{less_multiple, subtract_rows}
-use Rattle.polynomial.proofs.Shape.{shaped-length, shaped_row}
-use Rattle.polynomial.proofs.Change.{change-paste}
-use Rattle.polynomial.proofs.Turns.{subtract-turn}
+use Rattle.polynomial.specs.Rows.{subtract_rows}
 use Rattle.polynomial.proofs.subtract_by.Given as goal
 
 abbrev pub invariant-loop-i : goal.invariant-loop-i

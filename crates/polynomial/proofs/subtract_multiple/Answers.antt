@@ -1,6 +1,5 @@
 -- `polynomial::subtract_multiple` meets its contract: in each arm the loop's contract at that d. Assumes nothing.
 use native.Mathlib.Omega.{arith}
-use borrow.Author.Rules.{rules}
 use Rattle.words.proofs.InRange.{six}
 use Rattle.polynomial.proofs.subtract_multiple.Goals as goal
 

@@ -1,5 +1,4 @@
 -- `sliced::bits_of` meets its contract: six words. Assumes nothing.
-use borrow.Author.Rules.{rules}
 use native.Mathlib.Omega.{arith}
 use mathlib.Core.Path.{◌≡◌, sym}
 use lib.ListN.{length}

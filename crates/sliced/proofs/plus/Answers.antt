@@ -1,5 +1,4 @@
 -- `sliced::plus` meets its contract: six words. Assumes nothing.
-use borrow.Author.Rules.{rules}
 use native.Mathlib.Omega.{arith}
 use mathlib.Core.Path.{◌≡◌, sym}
 use lib.Bits.{bit_xor}

@@ -2,11 +2,8 @@
 use borrow.Author.Rules.{rules}
 use native.Mathlib.Omega.{arith}
 use mathlib.Core.Path.{◌≡◌}
-use mathlib.Core.List.{map}
-use Prim.Native.Nat.{◌≤◌}
-use lib.ListN.{take, drop}
 use Rattle.galois.specs.Element.{point}
-use Rattle.sliced.specs.Lane.{packed, points_of}
+use Rattle.sliced.specs.Lane.{points_of}
 use Rattle.sliced.proofs.Lanes.{point-bits}
 use Rattle.sliced.proofs.Turns.{packed_start, packed-turn, packed-room}
 use Rattle.sliced.proofs.points.Goals as goal

@@ -1,14 +1,10 @@
 -- `sliced::points` meets its contract: a turn of the loop packs one point more. Assumes nothing.
-use borrow.Author.Rules.{rules}
-use native.Mathlib.Omega.{arith}
 use mathlib.Core.Path.{◌≡◌}
 use mathlib.Core.List.{map}
 use Prim.Native.Nat.{◌≤◌}
 use lib.ListN.{take, drop}
 use Rattle.galois.specs.Element.{point}
-use Rattle.sliced.specs.Lane.{packed, points_of}
-use Rattle.sliced.proofs.Lanes.{point-bits}
-use Rattle.sliced.proofs.Turns.{packed_start, packed-turn, packed-room}
+use Rattle.sliced.specs.Lane.{packed}
 use Rattle.sliced.proofs.points.Given as goal
 
 abbrev pub invariant-loop-i : goal.invariant-loop-i

@@ -1,5 +1,4 @@
 -- `sliced::prepend` meets its contract: a bit under each of six words. Assumes nothing.
-use borrow.Author.Rules.{rules}
 use native.Mathlib.Omega.{arith}
 use mathlib.Core.Path.{◌≡◌, refl, sym}
 use Prim.Native.Nat.{ℕ, ◌^◌, ◌≤◌, ◌<◌}

@@ -2,10 +2,8 @@
 use borrow.Author.Rules.{rules}
 use native.Mathlib.Omega.{arith}
 use mathlib.Core.Path.{◌≡◌, refl}
-use mathlib.Core.List.{[], map}
-use Prim.Native.Nat.{◌≤◌}
-use lib.ListN.{length, take, drop}
-use Rattle.sliced.specs.Lane.{lane, packed, slice_of}
+use mathlib.Core.List.{[]}
+use Rattle.sliced.specs.Lane.{lane, slice_of}
 use Rattle.sliced.proofs.Lanes.{lane-bits}
 use Rattle.sliced.proofs.Turns.{packed_start, packed-turn, packed-room}
 use Rattle.sliced.proofs.slice.Goals as goal

@@ -1,13 +1,9 @@
 -- `sliced::slice` meets its contract: a turn of the loop packs one element more. Assumes nothing.
-use borrow.Author.Rules.{rules}
-use native.Mathlib.Omega.{arith}
-use mathlib.Core.Path.{◌≡◌, refl}
-use mathlib.Core.List.{[], map}
+use mathlib.Core.Path.{◌≡◌}
+use mathlib.Core.List.{map}
 use Prim.Native.Nat.{◌≤◌}
 use lib.ListN.{length, take, drop}
-use Rattle.sliced.specs.Lane.{lane, packed, slice_of}
-use Rattle.sliced.proofs.Lanes.{lane-bits}
-use Rattle.sliced.proofs.Turns.{packed_start, packed-turn, packed-room}
+use Rattle.sliced.specs.Lane.{lane, packed}
 use Rattle.sliced.proofs.slice.Given as goal
 
 abbrev pub invariant-loop-i : goal.invariant-loop-i

@@ -1,7 +1,6 @@
 -- `sliced::support` meets its contract: in each arm that of `support_by` at that d. Assumes nothing.
 use native.Mathlib.Omega.{arith}
 use Rattle.words.proofs.InRange.{six}
-use borrow.Author.Rules.{rules}
 use Rattle.sliced.proofs.support.Goals as goal
 
 pub returns-in-2 : goal.returns-in-2

@@ -1,5 +1,4 @@
 -- `sliced::support_by` meets its contract: the words from d on are cleared, and the rest joined. Assumes nothing.
-use borrow.Author.Rules.{rules}
 use native.Mathlib.Omega.{arith}
 use mathlib.Core.Path.{◌≡◌, ap, ◌∙◌}
 use lib.ListN.{length}

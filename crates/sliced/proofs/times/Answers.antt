@@ -1,7 +1,6 @@
 -- `sliced::times` meets its contract: in each arm the loop's contract at that d. Assumes nothing.
 use native.Mathlib.Omega.{arith}
 use Rattle.words.proofs.InRange.{six}
-use borrow.Author.Rules.{rules}
 use Rattle.sliced.proofs.times.Goals as goal
 
 pub returns-in-2 : goal.returns-in-2

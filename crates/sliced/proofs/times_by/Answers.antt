@@ -2,8 +2,7 @@
 use borrow.Author.Rules.{rules}
 use native.Mathlib.Omega.{arith}
 use mathlib.Core.Path.{◌≡◌, ◌∙◌, ap}
-use Prim.Native.Nat.{◌≤◌}
-use lib.ListN.{length, take, drop}
+use lib.ListN.{length, take}
 use Rattle.galois.specs.Element.{held}
 use Rattle.sliced.specs.Lane.{horner, times_lanes}
 use Rattle.sliced.proofs.Turns.{horner-start, horner-turn}
