@@ -1,35 +1,59 @@
 -- What the loops over a line and a text do in a turn: a separator is found, a digit or a number is read. Assumes nothing.
-use mathlib.Core.Path.{◌≡◌, refl, sym, ap, ◌∙◌}
-use mathlib.Core.List.{List, [], ◌∷◌, ◌++◌}
-use Prim.Native.Nat.{ℕ, zero, suc, ◌+◌, ◌-◌, ◌≤◌, ◌<◌}
-use native.Mathlib.Nat.{zero-add, add-zero, le_of_eq}
-use native.Mathlib.Numerals.{add-one}
-use native.Mathlib.Omega.{arith}
-use lib.ListN.{length, take, drop, get_or, set, length-set, drop_of_length-le, length-drop}
-use lib.Seq.{paste, paste-zero, take_all, drop-cons, drop-drop, get_or-drop, length-take-le}
-use Rattle.io.specs.Counts.{IsPrefixLen}
-use Rattle.bytes.specs.Bytes.{index_of, slice}
+use Rattle.std.proofs.Common.{◌≡◌, refl, sym, ap, ◌∙◌, cond, nat_lt, Bool, true, false, None, Some, List, [], ◌∷◌, ◌++◌, ℕ, zero, suc, ◌+◌, ◌-◌, ◌≤◌, ◌<◌, ◌==◌, arith, zero-add, add-zero, add-one, length, take, drop, get_or, set, length-set, length-drop, drop-cons, drop_of_length-le, length-take-le, get_or-drop, drop-drop}
+use lib.Seq.{paste, paste-zero}
+use Rattle.std.specs.List.{position}
+use Rattle.std.proofs.lemmas.List.{take_rest}
+use Rattle.std.proofs.lemmas.List.Sums.{prefix_len-le-length}
+use Rattle.std.proofs.lemmas.Bool.Decides.{nat_tests}
 use Rattle.words.specs.Word.{add_w, mul_w}
 use Rattle.words.proofs.Fill.{fill-next, fill-within}
-use Rattle.cases.specs.Case.{before, after, fields_from, field_of, number_from, numbers_of}
+use Rattle.cases.specs.Case.{IsPrefixLen, index_of, before, after, fields_from, field_of, number_from, numbers_of}
 
--- ---- what `bytes::scan::find` gives, from a position to the end
+pub prefix_len : (n : ℕ) (xs : List ℕ) → n ≤ length xs → IsPrefixLen n xs
+prefix_len n xs h = (h, sym (length-take-le n xs h))
 
-module _ (b : ℕ) (l : List ℕ) (at r : ℕ) (e : r ≡ at + index_of b (slice at (length l) l)) where
-  place : r ≡ at + index_of b (drop at l)
-  unfolding slice
-  place = e ∙ ap (λ (t : List ℕ). at + index_of b (drop at t)) (take_all (length l) l (le_of_eq refl))
+-- ---- a separator, by what `first` gives
 
+some_of : (v : Bool) (m i : ℕ) → cond v (Some m) None ≡ Some i → m ≡ i
+some_of true m i e = cc
+some_of false m i e = cc
+
+none_of : (v : Bool) (m : ℕ) → cond v (Some m) None ≡ None → v ≡ false
+none_of true m e = cc
+none_of false m e = refl
+
+module _ (b at : ℕ) (l : List ℕ) where
+  abbrev rest : List ℕ
+  rest = take (length l - at) (drop at l)
+
+  pub found_some : (i : ℕ) → position (λ c. c == b) rest ≡ Some i → at + i ≡ at + index_of b (drop at l)
+  found_some i e =
+      let f : position (λ c. c == b) (drop at l) ≡ Some i = ap (position (λ c. c == b)) (sym (take_rest l at)) ∙ e in
+      ap (λ (m : ℕ). at + m) (sym (some_of (nat_lt (index_of b (drop at l)) (length (drop at l))) _ _ f))
+
+  pub found_none : at ≤ length l → position (λ c. c == b) rest ≡ None → length l ≡ at + index_of b (drop at l)
+  found_none h e =
+      let m = index_of b (drop at l) in
+      let n = length (drop at l) in
+      let f : position (λ c. c == b) (drop at l) ≡ None = ap (position (λ c. c == b)) (sym (take_rest l at)) ∙ e in
+      let w : m ≤ n = prefix_len-le-length _ (drop at l) in
+      let t : nat_lt m n ≡ false = none_of (nat_lt m n) m f in
+      let g : m ≡ n = grind (arith, nat_tests) in
+      omega (arith, g, length-drop at l)
+
+-- ---- what `find` gives, from a position to the end
+
+module _ (b : ℕ) (l : List ℕ) (at r : ℕ) (e : r ≡ at + index_of b (drop at l)) where
   -- the part before the separator
   pub found_before : take (r - at) (drop at l) ≡ before b (drop at l)
   found_before =
-      let n : r - at ≡ index_of b (drop at l) = omega (arith, place) in
+      let n : r - at ≡ index_of b (drop at l) = omega (arith, e) in
       ap (λ (m : ℕ). take m (drop at l)) n
 
   -- and the rest after it
   pub found_after : drop (r + 1) l ≡ after b (drop at l)
   found_after =
-      let n : r + 1 ≡ at + suc (index_of b (drop at l)) = omega (arith, place) in
+      let n : r + 1 ≡ at + suc (index_of b (drop at l)) = omega (arith, e) in
       ap (λ (m : ℕ). drop m l) n ∙ sym (drop-drop (suc (index_of b (drop at l))) at l)
 
   -- where there is no separator
@@ -44,13 +68,21 @@ pub digit-next : (x i m g r : ℕ) (l : List ℕ) → i < length l → m ≡ mul
 unfolding number_from
 digit-next x i m g r l h em eg er = rw (er, em, eg, add-one, drop-cons l i 0 h)
 
+pub number-read : (x i : ℕ) (l : List ℕ) → length l ≤ i → number_from x (drop i l) ≡ x
+unfolding number_from
+number-read x i l h = rw (drop_of_length-le l {i = i} h)
+
 -- ---- fields
 
 pub field_next : (n : ℕ) (l rest next : List ℕ) → rest ≡ fields_from n l → next ≡ after 124 rest → next ≡ fields_from (n + 1) l
 unfolding fields_from
 field_next n l rest next e f = rw add-one (f ∙ ap (after 124) e)
 
-pub field_is : (i start end : ℕ) (l : List ℕ) → drop start l ≡ fields_from i l → end ≡ start + index_of 124 (slice start (length l) l)
+pub field_first : (l : List ℕ) → l ≡ fields_from 0 l
+unfolding fields_from
+field_first l = refl
+
+pub field_is : (i start end : ℕ) (l : List ℕ) → drop start l ≡ fields_from i l → end ≡ start + index_of 124 (drop start l)
     → take (end - start) (drop start l) ≡ field_of i l
 unfolding field_of
 field_is i start end l e f = found_before 124 l start end f ∙ ap (before 124) e
@@ -81,7 +113,7 @@ Reading text old new at n = let S = numbers_of (length old) text in
 pub reading-start : (text old : List ℕ) → Reading text old old 0 0
 reading-start text old =
     let n : length old ≡ length old - 0 = omega arith in
-    (omega arith, omega arith, omega arith, ap (λ (m : ℕ). numbers_of m text) (n), paste-zero old 0 (numbers_of (length old) text), refl)
+    (omega arith, omega arith, omega arith, ap (λ (m : ℕ). numbers_of m text) n, paste-zero old 0 (numbers_of (length old) text), refl)
 
 no_text : (n : ℕ) → numbers_of n [] ≡ []
 unfolding numbers_of
@@ -104,7 +136,7 @@ module _ (text old new : List ℕ) (at n : ℕ) (h : Reading text old new at n) 
       next-is S n (number_from 0 (before 32 (drop at text))) (numbers_of (length old - (n + 1)) (after 32 (drop at text))) (h.3 ∙ u)
 
   -- a turn
-  pub reading-next : (end v : ℕ) → n < length old → at < length text → end ≤ length text → end ≡ at + index_of 32 (slice at (length text) text)
+  pub reading-next : (end v : ℕ) → n < length old → at < length text → end ≤ length text → end ≡ at + index_of 32 (drop at text)
       → v ≡ number_from 0 (take (end - at) (drop at text)) → Reading text old (set new n v) (end + 1) (n + 1)
   reading-next end v o t b f e =
       let x = next-number o t in (
@@ -127,9 +159,7 @@ module _ (text old new : List ℕ) (at n : ℕ) (h : Reading text old new at n) 
       none_left S n (h.3 ∙ ap (λ (m : ℕ). numbers_of m (drop at text)) z) h.2
 
   pub counted : IsPrefixLen n new
-  counted =
-      let l : n ≤ length new = omega (arith, h.1, h.5) in
-      (l, sym (length-take-le n new l))
+  counted = prefix_len n new (omega (arith, h.1, h.5))
 
   pub reading-done : length S ≡ n → (n ≡ length S) × (new ≡ S ++ drop n old)
   reading-done e = (sym e, fill-within old S new 0 n h.4 e ∙ rw zero-add)

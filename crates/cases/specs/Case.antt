@@ -1,8 +1,16 @@
 -- Internal: the stored cases of a program, a line each: fields with bars between them, and a field is text, a number, or numbers with spaces
 -- between them. Assumes nothing.
-use Rattle.std.specs.Prelude.{ℕ, zero, suc, ◌-◌, List, [], ◌∷◌, take, drop}
-use Rattle.bytes.specs.Bytes.{index_of}
+use Rattle.std.specs.Prelude.{◌≡◌, ℕ, zero, suc, ◌-◌, ◌≤◌, ◌==◌, List, [], ◌∷◌, length, take, drop}
+use Rattle.std.specs.List.{position_or_len}
 use Rattle.words.specs.Word.{add_w, mul_w}
+
+-- `&xs[..n]` is in bounds and has n elements. The second part follows from the first.
+abbrev pub IsPrefixLen : ℕ → List ℕ → Type 0
+IsPrefixLen n xs = (n ≤ length xs) × (n ≡ length (take n xs))
+
+-- the position of the first byte b of a text, or its length
+abbrev pub index_of : ℕ → List ℕ → ℕ
+index_of b text = position_or_len (λ c. c == b) text
 
 -- what stands before the first byte b of a text, and what stands after it
 abbrev pub before : ℕ → List ℕ → List ℕ

@@ -1,16 +1,53 @@
 // Cases that a program reads from its stored input: a line each, of fields with bars between them.
-ghost use Rattle.std.specs.Prelude.{◌≡◌, ◌++◌, ◌-◌, ◌≤◌, length, drop};
-ghost use Rattle.io.specs.Counts.{IsPrefixLen};
-ghost use Rattle.cases.specs.Case.{after, fields_from, field_of, number_from, numbers_of};
+#![tactic(auto)]
 
-use libc::STDOUT_FILENO;
+ghost use Rattle.std.specs.Prelude.{◌≡◌, ◌+◌, ◌-◌, ◌≤◌, ◌==◌, ◌++◌, length, position, take, drop, IfOk, OnOk, codes, decimal};
+ghost use Rattle.std.specs.Io.KnownBytes.{Appends};
+ghost use Rattle.cases.specs.Case.{IsPrefixLen, index_of, after, fields_from, field_of, number_from, numbers_of};
+
+use std::io;
+use std::io::{Read, Write};
+
+// Reads to the end of the input or of the space, and gives how many bytes that is.
+pub fn read_full<R: Read>(from: &mut R, space: &mut [u8]) -> io::Result<usize>
+    ensures { IfOk result (λ n. IsPrefixLen n space.new) }
+{
+    let mut count: usize = 0;
+    while count < space.len() {
+        let more = from.read(&mut space[count..])?;
+        if more == 0 {
+            return Ok(count);
+        }
+        count += more;
+    }
+    Ok(count)
+}
+
+// Where the first byte b of a text is.
+fn first(text: &[u8], b: u8) -> Option<usize>
+    ensures { result ≡ position (λ c. c == b) text.now }
+{
+    text.iter().position(|c| *c == b)
+}
+
+// The position of the first byte b of a text from a position on; the text's end where there is none.
+pub fn find(text: &[u8], at: usize, b: u8) -> usize
+    requires { at ≤ length text.now }
+    ensures within { result ≤ length text.now }
+    ensures place { result ≡ at + index_of b (drop at text.now) }
+{
+    match first(&text[at..], b) {
+        Some(i) => at + i,
+        None => text.len(),
+    }
+}
 
 // The position after the next bar from a position on; the line's end where there is no bar.
 fn past_bar(line: &[u8], at: usize) -> usize
     requires { at ≤ length line.now }
     ensures { (result ≤ length line.now) × (drop result line.now ≡ after 124 (drop at line.now)) }
 {
-    let bar = bytes::scan::find(line, at, line.len(), b'|');
+    let bar = find(line, at, b'|');
     if bar == line.len() {
         return bar;
     }
@@ -22,10 +59,8 @@ fn field_start(line: &[u8], i: usize) -> usize
     ensures { (result ≤ length line.now) × (drop result line.now ≡ fields_from i line.now) }
 {
     let mut at = 0;
-    let mut n = 0;
-    while n < i {
+    for _ in 0..i {
         at = past_bar(line, at);
-        n += 1;
     }
     at
 }
@@ -35,7 +70,7 @@ pub fn field(line: &[u8], i: usize) -> &[u8]
     ensures { result.now ≡ field_of i line.now }
 {
     let start = field_start(line, i);
-    let end = bytes::scan::find(line, start, line.len(), b'|');
+    let end = find(line, start, b'|');
     &line[start..end]
 }
 
@@ -53,10 +88,8 @@ pub fn number(text: &[u8]) -> u64
     ensures { result ≡ number_from 0 text.now }
 {
     let mut x: u64 = 0;
-    let mut i = 0;
-    while i < text.len() {
-        x = words::add(64, words::mul(64, x, 10), digit(text[i]));
-        i += 1;
+    for c in text {
+        x = words::add(64, words::mul(64, x, 10), digit(*c));
     }
     x
 }
@@ -73,7 +106,7 @@ pub fn numbers(text: &[u8], out: &mut [u64]) -> usize
         if n == out.len() {
             return n;
         }
-        let end = bytes::scan::find(text, at, text.len(), b' ');
+        let end = find(text, at, b' ');
         out[n] = number(&text[at..end]);
         n += 1;
         at = end + 1;
@@ -93,24 +126,25 @@ pub fn params(line: &[u8]) -> words::Params
     words::Params { k, d, n, t }
 }
 
-// Prints field 0 of a line, and a colon. What is printed no contract can say, here and below.
-pub fn print_name(line: &[u8]) {
-    io::write_all(STDOUT_FILENO, field(line, 0));
-    io::write_all(STDOUT_FILENO, b":");
+// Prints field 0 of a line, and a colon. What a writer holds where it fails no clause says, here and below.
+pub fn print_name<W: Write>(out: &mut W, line: &[u8]) -> io::Result<()>
+    ensures { OnOk result (Appends (W.contents out.old) (W.contents out.new) (field_of 0 line.now ++ codes ":")) }
+{
+    out.write_all(field(line, 0))?;
+    out.write_all(b":")
 }
 
 // Prints a space and a number.
-pub fn print_number(x: u64) {
-    io::write_all(STDOUT_FILENO, b" ");
-    io::print_decimal(STDOUT_FILENO, x);
+pub fn print_number<W: Write>(out: &mut W, x: u64) -> io::Result<()>
+    ensures { OnOk result (Appends (W.contents out.old) (W.contents out.new) (codes " " ++ decimal x)) }
+{
+    write!(out, " {x}")
 }
 
 // Prints a space and a number for each word, and the end of the line.
-pub fn print_words(words: &[u64]) {
-    let mut i = 0;
-    while i < words.len() {
-        print_number(words[i]);
-        i += 1;
+pub fn print_words<W: Write>(out: &mut W, words: &[u64]) -> io::Result<()> {
+    for word in words {
+        print_number(out, *word)?;
     }
-    io::write_all(STDOUT_FILENO, b"\n");
+    out.write_all(b"\n")
 }

@@ -1,11 +1,16 @@
 // What the programs read and write: standard input whole, and a text whole, tried again where a call was interrupted or not ready.
 //
 // That `read` and `write` move the bytes that they say they move is assumed: no contract can speak of it.
-ghost use Rattle.std.specs.Prelude.{◌<◌, length};
-ghost use Rattle.io.specs.Counts.{IsPrefixLen};
+#![tactic(auto)]
+
+ghost use Rattle.std.specs.Prelude.{◌<◌, length, take, OnOk};
+ghost use Rattle.std.specs.Io.KnownBytes.{Appends, Consumes, IsAtEnd};
+ghost use Rattle.streams.specs.Counts.{IsPrefixLen};
 ghost use Rattle.listing.specs.Listing.{most_input};
 
-use libc::STDIN_FILENO;
+use std::io;
+use std::io::{Error, ErrorKind, Read, Write};
+use std::thread;
 
 // How often a read or a write that a signal interrupted, or that would have had to wait, is tried again before it counts as failed: at a
 // million tries a second, for half a million years.
@@ -15,74 +20,67 @@ const TRIES: u64 = 18446744073709551615;
 #[derive(Drop)]
 pub struct Input {
     pub count: usize,
-    pub whole: bool,
+    pub whole: io::Result<()>,
 }
 
-// Whether a read or a write that moved no byte is worth another try; where it was not ready, others run first.
-fn may_retry(answer: isize) -> bool {
-    if 0 <= answer {
-        return false;
-    }
-    let error = os::errno();
-    if error == libc::EAGAIN {
-        libc::sched_yield();
+// Whether a read or a write that failed is worth another try; where it was not ready, others run first.
+fn may_retry(error: &Error) -> bool {
+    let kind = error.kind();
+    if kind == ErrorKind::WouldBlock {
+        thread::yield_now();
         return true;
     }
-    error == libc::EINTR
+    kind == ErrorKind::Interrupted
 }
 
 // Reads to the end of the input or of the space, which is longer than an input may be.
-pub fn read_input(space: &mut [u8]) -> Input
+pub fn read_input<R: Read>(from: &mut R, space: &mut [u8]) -> Input
     requires { most_input < length space.old }
-    ensures { IsPrefixLen result.count space.new }
+    ensures count { IsPrefixLen result.count space.new }
+    ensures bytes { Consumes (R.remaining from.old) (R.remaining from.new) (take result.count space.new) }
+    ensures end { OnOk result.whole (result.count < length space.new → IsAtEnd (R.remaining from.new)) }
 {
     let mut count: usize = 0;
     let mut tries = TRIES;
     while count < space.len() {
-        let answer = libc::read(STDIN_FILENO, &mut space[count..]);
-        let more = io::count(answer, &space[count..]);
-        if more == 0 {
-            if answer == 0 {
-                return Input { count, whole: true };
+        match from.read(&mut space[count..]) {
+            Ok(0) => {
+                return Input { count, whole: Ok(()) };
             }
-            if tries == 0 {
-                return Input {
-                    count,
-                    whole: false,
-                };
+            Ok(more) => count += more,
+            Err(error) => {
+                if tries == 0 || !may_retry(&error) {
+                    return Input {
+                        count,
+                        whole: Err(error),
+                    };
+                }
+                tries -= 1;
             }
-            if !may_retry(answer) {
-                return Input {
-                    count,
-                    whole: false,
-                };
-            }
-            tries -= 1;
-        } else {
-            count += more;
         }
     }
-    Input { count, whole: true }
+    Input { count, whole: Ok(()) }
 }
 
-// Writes all of a text to a descriptor, and says whether that went well; if not, a beginning of it may have been written.
-pub fn write_text(fd: i32, text: &[u8]) -> bool {
+// Writes all of a text, or says why not; then a beginning of it may have been written.
+pub fn write_text<W: Write>(to: &mut W, text: &[u8]) -> io::Result<()>
+    ensures { OnOk result (Appends (W.contents to.old) (W.contents to.new) text.now) }
+{
     let mut done: usize = 0;
     let mut tries = TRIES;
     while done < text.len() {
-        let answer = libc::write(fd, &text[done..]);
-        let more = io::count(answer, &text[done..]);
-        if more == 0 {
-            if tries == 0 {
-                return false;
+        match to.write(&text[done..]) {
+            Ok(0) => {
+                return Err(Error::from(ErrorKind::WriteZero));
             }
-            if !may_retry(answer) {
-                return false;
+            Ok(more) => done += more,
+            Err(error) => {
+                if tries == 0 || !may_retry(&error) {
+                    return Err(error);
+                }
+                tries -= 1;
             }
-            tries -= 1;
-        } else {
-            done += more;
         }
     }
-    true
+    Ok(())
 }
