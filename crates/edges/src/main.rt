@@ -3,27 +3,30 @@
 // and what the output holds after it.
 //   add, EDGE|k|d|n|t|a|b|out      multiply, EDGE|k|d|n|t|a|b|out
 //   invert, EDGE|k|d|n|t|a||out    reading, EDGE|k|d|n|t|word||
-use libc::{STDIN_FILENO, STDOUT_FILENO};
+#![tactic(auto)]
+
+use std::io;
+use std::io::Write;
 use words::Params;
 
 // The signed reading of a word; nothing where the word is not in width.
-fn reading(k: u64, w: u64) {
+fn reading<W: Write>(out: &mut W, k: u64, w: u64) -> io::Result<()> {
     if k < 1 {
-        return;
+        return Ok(());
     }
     if 64 < k {
-        return;
+        return Ok(());
     }
     if !words::in_width(k, w) {
-        return;
+        return Ok(());
     }
     let s = words::read_signed(k, w);
-    io::write_all(STDOUT_FILENO, b" ");
+    out.write_all(b" ")?;
     if s.negative {
-        io::write_all(STDOUT_FILENO, b"-");
+        out.write_all(b"-")?;
     }
-    io::print_decimal(STDOUT_FILENO, s.magnitude);
-    io::write_all(STDOUT_FILENO, b"\n");
+    let magnitude = s.magnitude;
+    writeln!(out, "{magnitude}")
 }
 
 // The call of a name: its number.
@@ -37,19 +40,26 @@ fn call(name: u8, p: Params, a: &[u64], b: &[u64], out: &mut [u64]) -> u8 {
     arithmetic::invert(p, a, out)
 }
 
-fn answer(name: u8, p: Params, a: &[u64], b: &[u64], out: &mut [u64]) {
+fn answer<W: Write>(
+    to: &mut W,
+    name: u8,
+    p: Params,
+    a: &[u64],
+    b: &[u64],
+    out: &mut [u64],
+) -> io::Result<()> {
     let number = call(name, p, a, b, out);
-    cases::print_number(number as u64);
-    cases::print_words(out);
+    cases::print_number(to, number as u64)?;
+    cases::print_words(to, out)
 }
 
 // The case of one line.
-fn case(line: &[u8]) {
+fn case<W: Write>(to: &mut W, line: &[u8]) -> io::Result<()> {
     if line.len() == 0 {
-        return;
+        return Ok(());
     }
     let p = cases::params(line);
-    cases::print_name(line);
+    cases::print_name(to, line)?;
     let mut a = [0u64; 8];
     let mut b = [0u64; 8];
     let mut out = [0u64; 8];
@@ -57,23 +67,21 @@ fn case(line: &[u8]) {
     let n = cases::numbers(cases::field(line, 6), &mut b);
     let r = cases::numbers(cases::field(line, 7), &mut out);
     if line[0] == b'r' {
-        reading(p.k, a[0]);
+        reading(to, p.k, a[0])
     } else {
-        answer(line[0], p, &a[..m], &b[..n], &mut out[..r]);
+        answer(to, line[0], p, &a[..m], &b[..n], &mut out[..r])
     }
 }
 
-fn run(text: &[u8]) {
-    let mut at: usize = 0;
-    while at < text.len() {
-        let end = bytes::scan::find(text, at, text.len(), b'\n');
-        case(&text[at..end]);
-        at = end + 1;
+fn run<W: Write>(to: &mut W, text: &[u8]) -> io::Result<()> {
+    for line in text.split(|c| *c == b'\n') {
+        case(to, line)?;
     }
+    Ok(())
 }
 
-fn main() {
-    let mut space = io::large_buffer();
-    let n = io::read_full(STDIN_FILENO, &mut space);
-    run(&space[..n]);
+fn main(rt: HostRuntime) -> io::Result<()> {
+    let mut space = [0u8; 65536];
+    let n = cases::read_full(&mut rt.stdin(), &mut space)?;
+    run(&mut rt.stdout(), &space[..n])
 }

@@ -3,16 +3,19 @@
 //   f HEX  bytes as one file: the same
 //   r HEX  reads by a cursor to the end or a fault: the kinds as 1, 2 and o, then e or x
 //   s HEX  a bundle: the numbers of all its beginnings, and then of each of its bytes changed to each of some values
+#![tactic(auto)]
+
 ghost use Rattle.std.specs.Prelude.{◌≤◌, ◌<◌, length};
 
-use libc::{STDIN_FILENO, STDOUT_FILENO};
 use records::{Cursor, Read};
+use std::io;
+use std::io::Write;
 
 const ROOM: usize = 512;
 
-fn print(c: u8) {
+fn print<W: Write>(out: &mut W, c: u8) -> io::Result<()> {
     let text = [c];
-    io::write_all(STDOUT_FILENO, &text);
+    out.write_all(&text)
 }
 
 // One digit: the fault, or 0.
@@ -71,21 +74,17 @@ fn decode(text: &[u8], from: usize, end: usize) -> Case
 }
 
 // The numbers of all beginnings.
-fn beginnings(bytes: &[u8]) {
-    let zero: usize = 0;
-    let mut n: usize = 0;
-    while n < bytes.len() {
-        print(digit(&bytes[zero..n]));
-        n += 1;
+fn beginnings<W: Write>(out: &mut W, bytes: &[u8]) -> io::Result<()> {
+    for n in 0..bytes.len() {
+        print(out, digit(&bytes[..n]))?;
     }
-    print(b'\n');
+    print(out, b'\n')
 }
 
 // The number of the first n bytes.
 fn cut(bytes: &[u8], n: usize) -> u8 {
-    let zero: usize = 0;
     if n <= bytes.len() {
-        digit(&bytes[zero..n])
+        digit(&bytes[..n])
     } else {
         b'?'
     }
@@ -101,19 +100,17 @@ fn changed(bytes: [u8; 512], n: usize, i: usize, v: u8) -> u8
 }
 
 // The numbers with each byte in turn changed to one value.
-fn changes(bytes: [u8; 512], n: usize, v: u8)
+fn changes<W: Write>(out: &mut W, bytes: [u8; 512], n: usize, v: u8) -> io::Result<()>
     requires { n ≤ 512 }
 {
-    let mut i: usize = 0;
-    while i < n {
-        print(changed(bytes, n, i, v));
-        i += 1;
+    for i in 0..n {
+        print(out, changed(bytes, n, i, v))?;
     }
-    print(b'\n');
+    print(out, b'\n')
 }
 
 // What a cursor reads from a position on: a letter for each record, and one for the end.
-fn trace(bytes: &[u8]) {
+fn trace<W: Write>(out: &mut W, bytes: &[u8]) -> io::Result<()> {
     let mut at: usize = 0;
     while at < bytes.len() {
         let cursor = Cursor { at };
@@ -125,15 +122,14 @@ fn trace(bytes: &[u8]) {
             next,
         } = got
         else {
-            print(b'x');
-            print(b'\n');
-            return;
+            print(out, b'x')?;
+            return print(out, b'\n');
         };
-        print(letter(kind));
+        print(out, letter(kind))?;
         at = next.at;
     }
-    print(b'e');
-    print(b'\n');
+    print(out, b'e')?;
+    print(out, b'\n')
 }
 
 fn letter(kind: u64) -> u8 {
@@ -144,70 +140,67 @@ fn letter(kind: u64) -> u8 {
     }
 }
 
-fn all_changes(bytes: [u8; 512], n: usize)
+fn all_changes<W: Write>(out: &mut W, bytes: [u8; 512], n: usize) -> io::Result<()>
     requires { n ≤ 512 }
 {
-    changes(bytes, n, 0);
-    changes(bytes, n, 1);
-    changes(bytes, n, 2);
-    changes(bytes, n, 3);
-    changes(bytes, n, 4);
-    changes(bytes, n, 16);
-    changes(bytes, n, 17);
-    changes(bytes, n, 65);
-    changes(bytes, n, 255);
+    for v in [0, 1, 2, 3, 4, 16, 17, 65, 255] {
+        changes(out, bytes, n, v)?;
+    }
+    Ok(())
 }
 
 // What a case asks for.
-fn answer(kind: u8, bytes: &[u8]) {
+fn answer<W: Write>(out: &mut W, kind: u8, bytes: &[u8]) -> io::Result<()> {
     match kind {
         b'c' => {
-            print(digit(bytes));
-            print(b'\n');
+            print(out, digit(bytes))?;
+            print(out, b'\n')
         }
         b'f' => {
-            print(b'0' + bundle::check_file(bytes) % 10);
-            print(b'\n');
+            print(out, b'0' + bundle::check_file(bytes) % 10)?;
+            print(out, b'\n')
         }
-        b'r' => trace(bytes),
-        _ => beginnings(bytes),
+        b'r' => trace(out, bytes),
+        _ => beginnings(out, bytes),
     }
 }
 
-fn answer_first(kind: u8, bytes: &[u8], n: usize) {
-    let zero: usize = 0;
+fn answer_first<W: Write>(out: &mut W, kind: u8, bytes: &[u8], n: usize) -> io::Result<()> {
     if n <= bytes.len() {
-        answer(kind, &bytes[zero..n]);
+        answer(out, kind, &bytes[..n])?;
     }
+    Ok(())
 }
 
 // The case of one line.
-fn line(text: &[u8], from: usize, end: usize)
+fn line<W: Write>(out: &mut W, text: &[u8], from: usize, end: usize) -> io::Result<()>
     requires { (from < end) × (end ≤ length text.now) }
 {
     let kind = text[from];
     let case = decode(text, from + 2, end);
     let b = case.bytes;
     let n = case.size;
-    answer_first(kind, &b, n);
+    answer_first(out, kind, &b, n)?;
     if kind == b's' {
-        all_changes(b, n);
+        all_changes(out, b, n)?;
     }
+    Ok(())
 }
 
-fn run(text: &[u8]) {
+fn run<W: Write>(out: &mut W, text: &[u8]) -> io::Result<()> {
     let mut at: usize = 0;
     while at < text.len() {
-        let end = bytes::scan::find(text, at, text.len(), b'\n');
+        let end = cases::find(text, at, b'\n');
         if at < end {
-            line(text, at, end);
+            line(out, text, at, end)?;
         }
         at = end + 1;
     }
+    Ok(())
 }
 
-fn main() {
-    let mut space = io::large_buffer();
-    let n = io::read_full(STDIN_FILENO, &mut space);
-    run(&space[..n]);
+fn main(rt: HostRuntime) -> io::Result<()> {
+    let mut space = [0u8; 65536];
+    let n = cases::read_full(&mut rt.stdin(), &mut space)?;
+    run(&mut rt.stdout(), &space[..n])
 }
