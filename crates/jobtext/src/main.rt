@@ -3,32 +3,32 @@
 //
 // What stands on standard output is a beginning of the input's text, and all of it unless standard error says that writing failed. Where
 // reading fails nothing is printed. What `streams` assumes of reading and writing is assumed here.
-use libc::STDOUT_FILENO;
+#![tactic(auto)]
+
+use std::io;
+use std::io::Write;
 
 // Prints the text of an input, a piece at a time.
-fn print(bytes: &[u8]) {
+fn print<W: Write>(to: &mut W, bytes: &[u8]) -> io::Result<()> {
     let mut text = [0u8; text::REPORT];
     let accepted = exporting::accept(bytes);
     let pieces = listing::count_pieces(accepted);
-    let mut i: usize = 0;
-    while i < pieces {
+    for i in 0..pieces {
         let size = exporting::put_piece(bytes, accepted, i, &mut text);
-        if !streams::write_text(STDOUT_FILENO, &text[..size]) {
-            os::fail(b"jobtext: standard output");
-            return;
-        }
-        i += 1;
+        streams::write_text(to, &text[..size])?;
     }
+    Ok(())
 }
 
 // One byte more than an input may have tells one that is too long.
-fn main() {
+fn main(rt: HostRuntime) {
     let mut space = [0u8; listing::MOST_INPUT + 1];
-    let input = streams::read_input(&mut space);
-    if !input.whole {
-        os::fail(b"jobtext: standard input");
+    let input = streams::read_input(&mut rt.stdin(), &mut space);
+    if let Err(error) = input.whole {
+        let _ = eprintln!(rt; "jobtext: standard input: {error}");
         return;
     }
-    let count = input.count;
-    print(&space[..count]);
+    if let Err(error) = print(&mut rt.stdout(), &space[..input.count]) {
+        let _ = eprintln!(rt; "jobtext: standard output: {error}");
+    }
 }

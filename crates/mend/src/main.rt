@@ -4,94 +4,121 @@
 // What stands on standard output is a beginning of the input's report, and all of it unless standard error says that writing failed; only then
 // is the file made. Where reading fails nothing is printed. A file that could not be written whole is taken away again, and standard error says
 // so. What `streams` assumes of reading and writing is assumed here.
-ghost use Rattle.std.specs.Prelude.{◌≡◌, true, length};
+#![tactic(auto)]
+
+ghost use Rattle.std.specs.Prelude.{◌≡◌, OnOk, length};
 ghost use Rattle.listing.specs.Pieces.{accepted_input};
 ghost use Rattle.mending.specs.Mended.{mended};
 ghost use Rattle.mending.specs.Progress.{output_at};
 ghost use Rattle.mending.specs.Report.{report_pieces};
 
 use bundle::Accepted;
-use libc::STDOUT_FILENO;
+use std::env::{Env, FillError};
+use std::fs::{File, OpenOptions};
+use std::io::{Error, ErrorKind, Write};
+use std::{fs, io, str};
+
+// How long a name may be, and one byte more, as in the C library.
+const NAME: usize = 4096;
+
+// The number of the error that a name is too long.
+const TOO_LONG: i32 = 36;
 
 // Prints the report of an input, a piece at a time, mends it in the output on the way, and says whether writing went well.
-fn print(bytes: &[u8], accepted: Accepted, out: &mut [u8]) -> bool
+fn print<W: Write>(to: &mut W, bytes: &[u8], accepted: Accepted, out: &mut [u8]) -> io::Result<()>
     requires { (accepted ≡ accepted_input bytes.now) × (out.old ≡ output_at bytes.now 0) }
-    ensures { result ≡ true → out.new ≡ output_at bytes.now (report_pieces bytes.now) }
+    ensures { OnOk result (out.new ≡ output_at bytes.now (report_pieces bytes.now)) }
 {
     let mut text = [0u8; text::REPORT];
     let pieces = listing::count_pieces(accepted);
-    let mut i: usize = 0;
-    while i < pieces {
+    for i in 0..pieces {
         let size = mending::put_piece(bytes, accepted, i, out, &mut text);
-        if !streams::write_text(STDOUT_FILENO, &text[..size]) {
-            return false;
-        }
-        i += 1;
+        streams::write_text(to, &text[..size])?;
     }
-    true
+    Ok(())
 }
 
 // Writes a bundle to a new file, and says whether it then stands there.
-fn fill(fd: i32, bundle: &[u8]) -> bool {
-    if !streams::write_text(fd, bundle) {
-        return false;
+fn fill(file: &mut File, bundle: &[u8]) -> io::Result<()> {
+    streams::write_text(file, bundle)?;
+    file.sync_all()
+}
+
+// The new file's name, which is text.
+fn name<'a>(rt: &HostRuntime, space: &'a mut [u8]) -> io::Result<&'a str> {
+    match rt.arg(1, space) {
+        Ok(size) => match str::from_utf8(&space[..size]) {
+            Ok(name) => Ok(name),
+            Err(_) => Err(Error::new(ErrorKind::InvalidFilename, "a name that is not UTF-8")),
+        },
+        Err(_) => Err(Error::from_raw_os_error(TOO_LONG)),
     }
-    if libc::fsync(fd) != 0 {
-        return false;
+}
+
+// Makes a new file of a name, with a bundle in it. One that cannot be written whole is taken away again.
+fn make(rt: &HostRuntime, name: &str, bundle: &[u8]) -> io::Result<()> {
+    let mut file = OpenOptions::new()
+        .write(true)
+        .create_new(true)
+        .open(rt, name)?;
+    let filled = fill(&mut file, bundle);
+    if filled.is_err() {
+        let _ = fs::remove_file(rt, name);
     }
-    libc::close(fd) == 0
+    filled
 }
 
 // Makes the file that the argument names. The input is there for the contract alone.
-fn save(bytes: &[u8], bundle: &[u8])
+fn save(rt: &HostRuntime, bytes: &[u8], bundle: &[u8])
     requires { bundle.now ≡ mended bytes.now }
 {
-    let mut space = io::buffer();
-    let n = os::arg(1, &mut space);
-    let name = &space[..n];
-    let fd = os::create(name);
-    if fd < 0 {
-        os::fail(b"mend: the new file");
-        return;
+    let mut space = [0u8; NAME];
+    let saved = match name(rt, &mut space) {
+        Ok(name) => make(rt, name, bundle),
+        Err(error) => Err(error),
+    };
+    if let Err(error) = saved {
+        let _ = eprintln!(rt; "mend: the new file: {error}");
     }
-    if !fill(fd, bundle) {
-        os::fail(b"mend: the new file");
-        os::unlink(name);
+}
+
+// Whether the program was given an argument at a place, 0 being its own name.
+fn has_argument(rt: &HostRuntime, place: usize) -> bool {
+    match rt.arg(place, &mut []) {
+        Err(FillError::NotPresent) => false,
+        _ => true,
     }
 }
 
 // Mends an input in the output, prints its report, and makes the file if there is one to make.
-fn mend(bytes: &[u8], out: &mut [u8])
+fn mend(rt: &HostRuntime, bytes: &[u8], out: &mut [u8])
     requires { length out.old ≡ length bytes.now }
 {
     let accepted = mending::start(bytes, out);
-    if !print(bytes, accepted, out) {
-        os::fail(b"mend: standard output");
+    if let Err(error) = print(&mut rt.stdout(), bytes, accepted, out) {
+        let _ = eprintln!(rt; "mend: standard output: {error}");
         return;
     }
     if accepted.fault == 0 {
-        if os::arg_count() == 2 {
-            save(bytes, out);
+        if has_argument(rt, 1) {
+            save(rt, bytes, out);
         }
     }
 }
 
 // One byte more than an input may have tells one that is too long.
-fn main() {
-    if 2 < os::arg_count() {
-        io::write_all(
-            libc::STDERR_FILENO,
-            b"mend: one argument at most, the name of a new file\n",
-        );
+fn main(rt: HostRuntime) {
+    if has_argument(&rt, 2) {
+        let _ = eprintln!(rt; "mend: one argument at most, the name of a new file");
         return;
     }
     let mut space = [0u8; listing::MOST_INPUT + 1];
     let mut room = [0u8; listing::MOST_INPUT + 1];
-    let input = streams::read_input(&mut space);
-    if !input.whole {
-        os::fail(b"mend: standard input");
+    let input = streams::read_input(&mut rt.stdin(), &mut space);
+    if let Err(error) = input.whole {
+        let _ = eprintln!(rt; "mend: standard input: {error}");
         return;
     }
     let count = input.count;
-    mend(&space[..count], &mut room[..count]);
+    mend(&rt, &space[..count], &mut room[..count]);
 }

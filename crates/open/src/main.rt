@@ -2,34 +2,35 @@
 //
 // What stands on standard output is a beginning of the input's listing, and all of it unless standard error says that writing failed. Where
 // reading fails nothing is printed. What `streams` assumes of reading and writing is assumed here.
-use libc::STDOUT_FILENO;
+#![tactic(auto)]
+
+use std::io;
+use std::io::Write;
 
 // Prints the text of an input, a piece at a time.
-fn print(bytes: &[u8]) {
+fn print<W: Write>(to: &mut W, bytes: &[u8]) -> io::Result<()> {
     let mut line = [0u8; text::LINE];
     let mut printer = listing::start(bytes);
     loop {
         let piece = listing::next(printer, bytes, &mut line);
         let size = piece.size;
         if size == 0 {
-            return;
+            return Ok(());
         }
-        if !streams::write_text(STDOUT_FILENO, &line[..size]) {
-            os::fail(b"open: standard output");
-            return;
-        }
+        streams::write_text(to, &line[..size])?;
         printer = piece.printer;
     }
 }
 
 // One byte more than an input may have tells one that is too long.
-fn main() {
+fn main(rt: HostRuntime) {
     let mut space = [0u8; listing::MOST_INPUT + 1];
-    let input = streams::read_input(&mut space);
-    if !input.whole {
-        os::fail(b"open: standard input");
+    let input = streams::read_input(&mut rt.stdin(), &mut space);
+    if let Err(error) = input.whole {
+        let _ = eprintln!(rt; "open: standard input: {error}");
         return;
     }
-    let count = input.count;
-    print(&space[..count]);
+    if let Err(error) = print(&mut rt.stdout(), &space[..input.count]) {
+        let _ = eprintln!(rt; "open: standard output: {error}");
+    }
 }
