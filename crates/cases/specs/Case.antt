@@ -1,7 +1,7 @@
 -- Internal: the stored cases of a program, a line each: fields with bars between them, and a field is text, a number, or numbers with spaces
 -- between them. Assumes nothing.
-use Rattle.std.specs.Prelude.{◌≡◌, ℕ, zero, suc, ◌-◌, ◌≤◌, ◌==◌, List, [], ◌∷◌, length, take, drop}
-use Rattle.std.specs.List.{position_or_len}
+use Rattle.std.specs.Prelude.{◌≡◌, ℕ, zero, suc, ◌-◌, ◌≤◌, ◌==◌, List, [], ◌∷◌, ◌++◌, length, take, drop, codes, decimal}
+use Rattle.std.specs.List.{position_or_len, flat_map}
 use Rattle.words.specs.Word.{add_w, mul_w}
 
 -- `&xs[..n]` is in bounds and has n elements. The second part follows from the first.
@@ -39,3 +39,10 @@ unfolding number_from
 numbers_of zero text = []
 numbers_of (suc n) [] = []
 numbers_of (suc n) (c ∷ cs) = number_from 0 (before 32 (c ∷ cs)) ∷ numbers_of n (after 32 (c ∷ cs))
+
+-- what is printed for a number, a space and its digits; for a list of them, with the end of the line, byte 10
+abbrev pub spaced : ℕ → List ℕ
+spaced x = codes " " ++ decimal x
+
+abbrev pub spaced_line : List ℕ → List ℕ
+spaced_line xs = flat_map spaced xs ++ 10 ∷ []

@@ -1,9 +1,9 @@
 // Cases that a program reads from its stored input: a line each, of fields with bars between them.
 #![tactic(auto)]
 
-ghost use Rattle.std.specs.Prelude.{◌≡◌, ◌+◌, ◌-◌, ◌≤◌, ◌==◌, ◌++◌, length, position, take, drop, IfOk, OnOk, codes, decimal};
+ghost use Rattle.std.specs.Prelude.{◌≡◌, ◌+◌, ◌-◌, ◌≤◌, ◌==◌, ◌++◌, length, position, take, drop, IfOk, OnOk, codes};
 ghost use Rattle.std.specs.Io.KnownBytes.{Appends};
-ghost use Rattle.cases.specs.Case.{IsPrefixLen, index_of, after, fields_from, field_of, number_from, numbers_of};
+ghost use Rattle.cases.specs.Case.{IsPrefixLen, index_of, after, fields_from, field_of, number_from, numbers_of, spaced, spaced_line};
 
 use std::io;
 use std::io::{Read, Write};
@@ -136,13 +136,15 @@ pub fn print_name<W: Write>(out: &mut W, line: &[u8]) -> io::Result<()>
 
 // Prints a space and a number.
 pub fn print_number<W: Write>(out: &mut W, x: u64) -> io::Result<()>
-    ensures { OnOk result (Appends (W.contents out.old) (W.contents out.new) (codes " " ++ decimal x)) }
+    ensures { OnOk result (Appends (W.contents out.old) (W.contents out.new) (spaced x)) }
 {
     write!(out, " {x}")
 }
 
 // Prints a space and a number for each word, and the end of the line.
-pub fn print_words<W: Write>(out: &mut W, words: &[u64]) -> io::Result<()> {
+pub fn print_words<W: Write>(out: &mut W, words: &[u64]) -> io::Result<()>
+    ensures { OnOk result (Appends (W.contents out.old) (W.contents out.new) (spaced_line words.now)) }
+{
     for word in words {
         print_number(out, *word)?;
     }
