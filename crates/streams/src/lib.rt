@@ -5,12 +5,11 @@
 
 ghost use Rattle.std.specs.Prelude.{◌<◌, length, take, OnOk};
 ghost use Rattle.std.specs.Io.KnownBytes.{Appends, Consumes, IsAtEnd};
-ghost use Rattle.streams.specs.Counts.{IsPrefixLen};
+ghost use Rattle.streams.specs.Moved.{IsPrefixLen, AppendsStart};
 ghost use Rattle.listing.specs.Listing.{most_input};
 
-use std::io;
 use std::io::{Error, ErrorKind, Read, Write};
-use std::thread;
+use std::{io, thread};
 
 // How often a read or a write that a signal interrupted, or that would have had to wait, is tried again before it counts as failed: at a
 // million tries a second, for half a million years.
@@ -45,7 +44,10 @@ pub fn read_input<R: Read>(from: &mut R, space: &mut [u8]) -> Input
     while count < space.len() {
         match from.read(&mut space[count..]) {
             Ok(0) => {
-                return Input { count, whole: Ok(()) };
+                return Input {
+                    count,
+                    whole: Ok(()),
+                };
             }
             Ok(more) => count += more,
             Err(error) => {
@@ -59,12 +61,16 @@ pub fn read_input<R: Read>(from: &mut R, space: &mut [u8]) -> Input
             }
         }
     }
-    Input { count, whole: Ok(()) }
+    Input {
+        count,
+        whole: Ok(()),
+    }
 }
 
 // Writes all of a text, or says why not; then a beginning of it may have been written.
 pub fn write_text<W: Write>(to: &mut W, text: &[u8]) -> io::Result<()>
-    ensures { OnOk result (Appends (W.contents to.old) (W.contents to.new) text.now) }
+    ensures start { AppendsStart (W.contents to.old) (W.contents to.new) text.now }
+    ensures all { OnOk result (Appends (W.contents to.old) (W.contents to.new) text.now) }
 {
     let mut done: usize = 0;
     let mut tries = TRIES;

@@ -6,7 +6,7 @@ use Rattle.streams.proofs.read_input.Given as goal
 abbrev pub invariant-loop-count : goal.invariant-loop-count
 invariant-loop-count g l = record {
   within : l.count ≤ length l.space;
-  taken : Consumes (g.R.Read.remaining l.initial.from) (g.R.Read.remaining l.from) (take l.count l.space)
+  taken : Consumes (g.R.Read.remaining l.initial.from) (g.R.Read.remaining l.from) (take l.count l.space);
 }
 
 abbrev pub decreases-loop-count : goal.decreases-loop-count

@@ -6,7 +6,7 @@ use Rattle.streams.proofs.write_text.Given as goal
 abbrev pub invariant-loop-done : goal.invariant-loop-done
 invariant-loop-done g l = record {
   within : l.done ≤ length l.text;
-  given : Appends (g.W.Write.contents l.initial.to) (g.W.Write.contents l.to) (take l.done l.text)
+  given : Appends (g.W.Write.contents l.initial.to) (g.W.Write.contents l.to) (take l.done l.text);
 }
 
 abbrev pub decreases-loop-done : goal.decreases-loop-done
