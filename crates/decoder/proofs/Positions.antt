@@ -6,10 +6,9 @@ use mathlib.Core.List.{List, [], ◌∷◌}
 use Prim.Native.Nat.{ℕ, ◌-◌, ◌/◌, ◌%◌, ◌^◌, ◌≤◌, ◌<◌}
 use native.Mathlib.Nat.{zero-div, pow-le-pow_right}
 use native.Mathlib.Omega.{arith}
-use lib.ListN.{length, get_or, set, replicate}
+use lib.ListN.{get_or, set, replicate}
 use Rattle.words.specs.declared.Params.{Params}
 use Rattle.words.proofs.InRange.{InRange}
-use Rattle.algebra.specs.Shares.{All}
 use Rattle.algebra.proofs.Shares.{all_map, all-at}
 use Rattle.polynomial.specs.Rows.{Rows}
 use Rattle.comparison.specs.Comparison.{position_of}

@@ -24,7 +24,7 @@ use Rattle.codewords.specs.WellFormed.{IsElement, IsPoly, InWidth}
 use Rattle.codewords.proofs.Residue.{residue-element, residue-zero}
 use Rattle.codewords.proofs.Value.{rows_of}
 use Rattle.codewords.proofs.Without.{reword}
-use Rattle.level.specs.Shares.{share_at, shares_from, shares_of}
+use Rattle.level.specs.Shares.{share_at, shares_from}
 use Rattle.level.proofs.Shares.{from_start, from_next}
 use Rattle.rounds.specs.Residues.{bits_of, bits_of_all}
 use Rattle.rounds.proofs.Lowest.{bits-zero, zero_bits, all-zero, bits-held}

@@ -3,14 +3,12 @@
 use mathlib.Core.Path.{◌≡◌, refl, sym, ◌∙◌, ap, ap₂}
 use mathlib.Core.Bool.{true, ◌&&◌}
 use mathlib.Core.List.{List, [], ◌∷◌, ◌++◌, map}
-use Prim.Native.Nat.{ℕ, zero, suc, ◌+◌, ◌*◌, ◌-◌, ◌/◌, ◌%◌, ◌^◌, ◌≤◌, ◌<◌}
+use Prim.Native.Nat.{ℕ, zero, suc, ◌-◌, ◌/◌, ◌%◌, ◌^◌, ◌≤◌, ◌<◌}
 use native.Mathlib.Nat.{pow-le-pow_right, zero-div}
 use native.Mathlib.Omega.{arith}
-use lib.Bits.{bit_or, bit_xor, or_zero_l, or_zero_r, or_lt, xor_zero_r}
-use lib.Dec.{lit<}
+use lib.Bits.{bit_or, or_zero_l, or_zero_r, or_lt, xor_zero_r}
 use lib.Pow.{pow_pos}
 use lib.ListN.{length, take, get_or}
-use lib.Seq.{get_or-take}
 use Rattle.words.specs.Word.{in_width, all_in_width}
 use Rattle.words.proofs.Width.{in-width-lt, lt-in-width, or-width}
 use Rattle.algebra.specs.Shares.{All}

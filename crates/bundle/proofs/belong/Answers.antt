@@ -1,7 +1,6 @@
 -- `belong`: headings that belong together would pass each test that failed. Assumes nothing.
 use mathlib.Core.Path.{◌≡◌, sym, ◌∙◌}
 use mathlib.Core.Bool.{false}
-use borrow.Author.Rules.{rules}
 use borrow.Author.Tests.{eq-eqb, eqb-true}
 use Rattle.words.proofs.Tests.{not-held, same_test, true-false}
 use Rattle.bundle.specs.Bundle.{belongs}

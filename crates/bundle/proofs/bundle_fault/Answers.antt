@@ -2,7 +2,6 @@
 use mathlib.Core.Path.{sym, ◌∙◌}
 use Prim.Native.Nat.{ℕ}
 use mathlib.Core.List.{List}
-use borrow.Author.Rules.{rules}
 use Rattle.records.proofs.Lengths.{known-order}
 use Rattle.bundle.proofs.Files.{bundle-order, bundle-files}
 use Rattle.bundle.proofs.bundle_fault.Goals as goal

@@ -1,6 +1,5 @@
 -- `check_file`: the files where one may stand. Assumes nothing.
 use mathlib.Core.Path.{refl}
-use borrow.Author.Rules.{rules}
 use Rattle.bundle.proofs.check_file.Goals as goal
 
 pub returns : goal.returns

@@ -1,6 +1,5 @@
 -- `files_fault`: the files where as many may stand as there are bytes. Assumes nothing.
 use native.Mathlib.Nat.{le_refl}
-use borrow.Author.Rules.{rules}
 use Rattle.bundle.proofs.files_fault.Goals as goal
 
 pub returns : goal.returns

@@ -5,7 +5,6 @@ use mathlib.Core.Bool.{true, ◌||◌}
 use mathlib.Core.List.{List}
 use lib.ListN.{length}
 use lib.Dec.{eqb, ltb}
-use borrow.Author.Rules.{rules}
 use native.Mathlib.Omega.{arith}
 use Rattle.words.specs.Refusal.{unless}
 use Rattle.records.specs.Layout.{record_size, job_kind, body_at}

@@ -1,13 +1,13 @@
 -- The loop of `jobs_fault`: the places passed have no fault. Assumes nothing.
 use mathlib.Core.Path.{◌≡◌, sym, ◌∙◌}
-use Prim.Native.Nat.{◌+◌, ◌-◌, ◌≤◌}
+use Prim.Native.Nat.{◌+◌, ◌≤◌}
 use lib.ListN.{length}
 use native.Mathlib.Omega.{arith}
 use Rattle.records.specs.Layout.{record_size}
 use Rattle.bundle.specs.Bundle.{num_of, job_fault_at}
 use Rattle.records.proofs.Lengths.{known-job-min}
 use Rattle.bundle.proofs.Headings.{job-ok}
-use Rattle.bundle.proofs.Files.{JobsAt, jobs-start, jobs-stop, jobs-next}
+use Rattle.bundle.proofs.Files.{jobs-start, jobs-stop, jobs-next}
 use Rattle.bundle.proofs.jobs_fault.Goals as goal
 use Rattle.bundle.proofs.jobs_fault.Goals.{After-word_at-prev, Else-fault-ne0}
 

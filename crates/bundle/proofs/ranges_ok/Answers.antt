@@ -1,6 +1,5 @@
 -- `ranges_ok`: the parameters' test, then the count of jobs. Assumes nothing.
 use mathlib.Core.Path.{refl, sym, ◌∙◌}
-use borrow.Author.Rules.{rules}
 use Rattle.words.specs.Params.{params_ok}
 use Rattle.words.proofs.Tests.{and_yes, and_no}
 use Rattle.bundle.specs.Bundle.{ranges_ok}

@@ -1,12 +1,9 @@
 use borrow.Author.Rules.{rules}
 use native.Mathlib.Omega.{arith}
 use mathlib.Core.Path.{◌≡◌, refl}
-use Prim.Native.Nat.{◌-◌, ◌≤◌}
 use lib.ListN.{length, length-set}
-use lib.Seq.{paste, paste-zero}
+use lib.Seq.{paste-zero}
 use Rattle.words.proofs.Fill.{fill_more, fill-within}
-use Rattle.decimal.proofs.put_bytes.Reads as reads
-use Rattle.decimal.proofs.put_bytes.Lts as lts
 use Rattle.decimal.proofs.put_bytes.Goals as goal
 use Rattle.decimal.proofs.put_bytes.Goals.{At-loop-i}
 

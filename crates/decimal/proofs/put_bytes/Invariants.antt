@@ -1,12 +1,7 @@
-use borrow.Author.Rules.{rules}
-use native.Mathlib.Omega.{arith}
-use mathlib.Core.Path.{◌≡◌, refl}
+use mathlib.Core.Path.{◌≡◌}
 use Prim.Native.Nat.{◌-◌, ◌≤◌}
-use lib.ListN.{length, length-set}
-use lib.Seq.{paste, paste-zero}
-use Rattle.words.proofs.Fill.{fill_more, fill-within}
-use Rattle.decimal.proofs.put_bytes.Reads as reads
-use Rattle.decimal.proofs.put_bytes.Lts as lts
+use lib.ListN.{length}
+use lib.Seq.{paste}
 use Rattle.decimal.proofs.put_bytes.Given as goal
 
 abbrev pub invariant-loop-i : goal.invariant-loop-i

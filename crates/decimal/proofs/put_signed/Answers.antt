@@ -1,5 +1,4 @@
 -- `put_signed`: the sign and then the digits. Assumes nothing.
-use borrow.Author.Rules.{rules}
 use native.Mathlib.Omega.{arith}
 use Rattle.decimal.specs.Decimal.{decimal, sign, signed_text}
 use Rattle.decimal.proofs.Written.{wrote-more}

@@ -1,12 +1,9 @@
 -- `decoder::clear_positions` meets its contract. Assumes nothing.
-use borrow.Author.Rules.{rules}
-use native.Mathlib.Omega.{arith}
-use mathlib.Core.Path.{◌≡◌, refl, sym, ◌∙◌}
+use mathlib.Core.Path.{◌≡◌}
 use mathlib.Core.List.{List}
-use Prim.Native.Nat.{ℕ, ◌-◌, ◌≤◌, ◌<◌}
-use lib.ListN.{length, replicate, length-replicate, get_or-replicate, length-set}
-use lib.Seq.{paste, paste-zero}
-use Rattle.words.proofs.Fill.{fill-next, fill-all}
+use Prim.Native.Nat.{ℕ, ◌-◌, ◌≤◌}
+use lib.ListN.{length, replicate}
+use lib.Seq.{paste}
 use Rattle.decoder.proofs.clear_positions.Given as goal
 
 abbrev pub nones : List ℕ

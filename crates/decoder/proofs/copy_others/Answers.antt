@@ -1,12 +1,11 @@
 -- `decoder::copy_others` meets its contract: after each turn the shares kept so far stand first in the second arrays. Assumes nothing.
-use borrow.Author.Rules.{rules}
 use native.Mathlib.Omega.{arith}
-use mathlib.Core.Path.{◌≡◌, refl, ◌∙◌}
-use mathlib.Core.List.{[], ◌++◌}
-use Prim.Native.Nat.{ℕ, ◌-◌, ◌≤◌, ◌<◌}
-use lib.ListN.{length, get_or, length-set}
+use mathlib.Core.Path.{refl, ◌∙◌}
+use mathlib.Core.List.{[]}
+use Prim.Native.Nat.{◌≤◌, ◌<◌}
+use lib.ListN.{get_or, length-set}
 use Rattle.codewords.specs.Residue.{without}
-use Rattle.level.specs.Shares.{shares_from, shares_of}
+use Rattle.level.specs.Shares.{shares_of}
 use Rattle.decoder.proofs.Dropped.{copy_start, copy-turn, drop-end}
 use Rattle.decoder.proofs.copy_others.Goals as goal
 use Rattle.decoder.proofs.copy_others.Goals.{At-loop-i}

@@ -15,7 +15,6 @@ use Rattle.codewords.proofs.Opening.{answer-few, answer-from}
 use Rattle.codewords.proofs.Without.{rising-different}
 use Rattle.level.specs.Shares.{shares_of}
 use Rattle.level.proofs.Shares.{length_from}
-use borrow.Author.Rules.{rules}
 use Rattle.decoder.proofs.decode.Goals as goal
 use Rattle.decoder.proofs.decode.Goals.{Else-m-p-2, Else-narrow, Start, Then-narrow}
 

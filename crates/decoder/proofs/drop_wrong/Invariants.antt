@@ -1,13 +1,10 @@
 -- `decoder::drop_wrong` meets its contract: after each turn the shares kept so far stand first, and those ahead as they were. Assumes nothing.
-use borrow.Author.Rules.{rules}
-use native.Mathlib.Omega.{arith}
-use mathlib.Core.Path.{◌≡◌, refl, ◌∙◌}
-use mathlib.Core.List.{[], ◌++◌}
-use Prim.Native.Nat.{ℕ, ◌-◌, ◌≤◌, ◌<◌}
-use lib.ListN.{length, get_or, length-set}
+use mathlib.Core.Path.{◌≡◌}
+use mathlib.Core.List.{◌++◌}
+use Prim.Native.Nat.{ℕ, ◌-◌, ◌≤◌}
+use lib.ListN.{length}
 use Rattle.codewords.specs.Residue.{without}
 use Rattle.level.specs.Shares.{shares_from, shares_of}
-use Rattle.decoder.proofs.Dropped.{drop-start, holder-range, drop-same, drop-turn, drop-end}
 use Rattle.decoder.proofs.drop_wrong.Given as goal
 
 abbrev pub invariant-loop-i : goal.invariant-loop-i

@@ -7,7 +7,6 @@ use native.Mathlib.Nat.{zero-add, le_of_eq, suc-ne-zero, suc_inj}
 use lib.ListN.{length, take, drop, get_or, set, drop_of_length-le}
 use Rattle.words.proofs.InRange.{ok-range}
 use Rattle.words.proofs.Refusal.{kept-none, kept-some}
-use borrow.Author.Rules.{rules}
 use Rattle.decoder.proofs.hand_out.Goals as goal
 use Rattle.decoder.proofs.hand_out.Goals.{After-lowest_bits, After-store}
 

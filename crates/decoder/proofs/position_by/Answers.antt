@@ -1,11 +1,10 @@
 -- `decoder::position_by` meets its contract: the share's words and the value, each in an array of six, compared. Assumes nothing.
-use borrow.Author.Rules.{rules}
 use native.Mathlib.Omega.{arith}
 use mathlib.Core.Path.{◌≡◌, refl, ◌∙◌, ap, ap₂}
 use Prim.Native.Nat.{suc, ◌+◌}
 use lib.ListN.{length, take}
 use lib.Seq.{length-take-le}
-use Rattle.galois.specs.Element.{Element, held, point}
+use Rattle.galois.specs.Element.{held, point}
 use Rattle.galois.proofs.Held.{held_same}
 use Rattle.galois.proofs.Points.{length-point}
 use Rattle.polynomial.specs.Polynomial.{value}

@@ -1,6 +1,5 @@
 -- `decoder::position_of` meets its contract: in each arm the contract at that d. Assumes nothing.
 use native.Mathlib.Omega.{arith}
-use borrow.Author.Rules.{rules}
 use Rattle.words.proofs.InRange.{six}
 use Rattle.decoder.proofs.position_of.Goals as goal
 

@@ -1,20 +1,19 @@
 -- `decoder::search` meets its contract: what holds before each round is `Sought`, and each round drops a share at least, so the error bound
 -- falls. Assumes nothing.
-use borrow.Author.Rules.{rules}
 use native.Mathlib.Omega.{arith}
 use mathlib.Core.Path.{◌≡◌, refl, ◌∙◌, ap}
 use mathlib.Core.Bool.{Bool, true, false}
 use mathlib.Core.List.{List}
 use Prim.Native.Nat.{ℕ, suc, ◌+◌, ◌*◌, ◌≤◌}
-use lib.ListN.{length, take}
-use Rattle.polynomial.specs.Rows.{Rows, Shaped}
+use lib.ListN.{take}
+use Rattle.polynomial.specs.Rows.{Rows}
 use Rattle.codewords.specs.Codeword.{Share}
 use Rattle.level.specs.Shares.{shares_of}
 use Rattle.level.proofs.Shares.{length_from, holders-numbered}
 use Rattle.rounds.specs.declared.Found.{Found}
 use Rattle.rounds.specs.declared.Found.TheVariants.{Wrong, Nothing}
 use Rattle.rounds.proofs.Arrays.{take-of}
-use Rattle.decoder.proofs.Rounds.{Sought, Jumped, Round, start, round}
+use Rattle.decoder.proofs.Rounds.{Jumped, Round, start, round}
 use Rattle.decoder.proofs.search.Goals as goal
 use Rattle.decoder.proofs.search.Goals.{After-round-got, At-loop-w, Else-all, In-Wrong}
 

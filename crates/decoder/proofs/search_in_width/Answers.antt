@@ -1,5 +1,4 @@
 -- `decoder::search_in_width` meets its contract: the search can leave out the shares with a wide word. Assumes nothing.
-use borrow.Author.Rules.{rules}
 use native.Mathlib.Omega.{arith}
 use mathlib.Core.Path.{refl}
 use mathlib.Core.List.{List}

@@ -1,5 +1,4 @@
 -- `decoder::search_lent` meets its contract: a first round gives the answer, or holders that the search can leave out. Assumes nothing.
-use borrow.Author.Rules.{rules}
 use native.Mathlib.Omega.{arith}
 use mathlib.Core.Path.{◌≡◌, ◌∙◌, ap}
 use mathlib.Core.Bool.{Bool, true, false}

@@ -1,9 +1,8 @@
 -- The loop of `copy_words`: after i turns the first i words are written. Assumes nothing.
 use mathlib.Core.Path.{◌≡◌, refl}
-use Prim.Native.Nat.{◌-◌, ◌≤◌}
 use native.Mathlib.Omega.{arith}
 use lib.ListN.{length, length-set}
-use lib.Seq.{paste, paste-zero}
+use lib.Seq.{paste-zero}
 use borrow.Author.Rules.{rules}
 use Rattle.words.proofs.Fill.{fill-next, fill-all}
 use Rattle.describe.proofs.copy_words.Goals as goal

@@ -1,11 +1,8 @@
 -- The loop of `copy_words`: after i turns the first i words are written. Assumes nothing.
-use mathlib.Core.Path.{◌≡◌, refl}
+use mathlib.Core.Path.{◌≡◌}
 use Prim.Native.Nat.{◌-◌, ◌≤◌}
-use native.Mathlib.Omega.{arith}
-use lib.ListN.{length, length-set}
-use lib.Seq.{paste, paste-zero}
-use borrow.Author.Rules.{rules}
-use Rattle.words.proofs.Fill.{fill-next, fill-all}
+use lib.ListN.{length}
+use lib.Seq.{paste}
 use Rattle.describe.proofs.copy_words.Given as goal
 
 abbrev pub invariant-loop-i : goal.invariant-loop-i

@@ -4,7 +4,6 @@ use Prim.Native.Nat.{ℕ, ◌<◌}
 use native.Mathlib.Omega.{arith}
 use mathlib.Core.List.{List}
 use lib.ListN.{length}
-use borrow.Author.Rules.{rules}
 use Rattle.words.specs.Refusal.{first}
 use Rattle.words.specs.Faults.{length_fault}
 use Rattle.words.proofs.Refusal.{first-left}

@@ -1,5 +1,4 @@
 -- `index_fault`: the one test. Assumes nothing.
-use borrow.Author.Rules.{rules}
 use Rattle.describe.specs.Describe.{index_fault}
 use Rattle.describe.proofs.index_fault.Goals as goal
 

@@ -4,7 +4,6 @@ use Prim.Native.Nat.{ℕ}
 use mathlib.Core.List.{List}
 use native.Mathlib.Omega.{arith}
 use lib.ListN.{length}
-use borrow.Author.Rules.{rules}
 use Rattle.words.proofs.Faults.{length-clear}
 use Rattle.records.specs.Record.{read_fault}
 use Rattle.describe.specs.Describe.{step_by}

@@ -5,7 +5,6 @@ use native.Mathlib.Nat.{add-sub_cancel_left}
 use native.Mathlib.Omega.{arith}
 use mathlib.Core.List.{List}
 use lib.ListN.{length, take, drop}
-use borrow.Author.Rules.{rules}
 use Rattle.words.specs.Refusal.{first}
 use Rattle.records.specs.Num.{part}
 use Rattle.records.specs.Layout.{body_at, body_size, job_len}

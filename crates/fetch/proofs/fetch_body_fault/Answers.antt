@@ -2,7 +2,6 @@
 use mathlib.Core.Path.{ap₂, ◌∙◌}
 use Prim.Native.Nat.{ℕ}
 use mathlib.Core.List.{List}
-use borrow.Author.Rules.{rules}
 use Rattle.words.specs.Refusal.{first}
 use Rattle.bundle.proofs.Bundles.{accept-none, accept-files}
 use Rattle.fetch.proofs.Fetch.{body_refused, body-told}

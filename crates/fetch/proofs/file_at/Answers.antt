@@ -1,7 +1,6 @@
 -- `file_at`: a product that does not overflow. Assumes nothing.
 use mathlib.Core.Path.{ap}
 use Prim.Native.Nat.{ℕ, ◌+◌, ◌*◌, ◌≤◌}
-use borrow.Author.Rules.{rules}
 use native.Mathlib.Omega.{arith}
 use Rattle.records.specs.Layout.{order_size}
 use Rattle.records.proofs.Lengths.{files-high}

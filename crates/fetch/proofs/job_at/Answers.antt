@@ -1,7 +1,6 @@
 -- `job_at`: products that do not overflow. Assumes nothing.
 use mathlib.Core.Path.{◌≡◌, ap, ap₂, ◌∙◌}
 use Prim.Native.Nat.{ℕ, ◌+◌, ◌*◌, ◌≤◌}
-use borrow.Author.Rules.{rules}
 use native.Mathlib.Omega.{arith}
 use Rattle.records.specs.Layout.{record_size, job_size, order_size, file_size}
 use Rattle.records.proofs.Lengths.{files-high, head-high, job-high, jobs_high}

@@ -1,15 +1,8 @@
 -- The loop of `load_words`: the first i words are in their places. Assumes nothing.
-use mathlib.Core.Path.{◌≡◌, refl, sym, ap, ◌∙◌}
+use mathlib.Core.Path.{◌≡◌}
 use Prim.Native.Nat.{◌+◌, ◌-◌, ◌*◌, ◌≤◌}
-use native.Mathlib.Nat.{zero-add}
-use native.Mathlib.Omega.{arith}
-use borrow.Author.Rules.{rules}
-use lib.ListN.{replicate}
 use lib.Seq.{paste}
-use Rattle.words.proofs.Fill.{fill-next, fill-within}
-use Rattle.records.specs.Num.{le_at}
 use Rattle.bundle.specs.Contents.{words_from}
-use Rattle.bundle.proofs.Contents.{words_count, words-at}
 use Rattle.fetch.proofs.load_words.Given as goal
 
 abbrev pub invariant-loop-i : goal.invariant-loop-i

@@ -1,5 +1,4 @@
 -- `place_fault`: the one test. Assumes nothing.
-use borrow.Author.Rules.{rules}
 use Rattle.fetch.specs.Fetch.{place_fault}
 use Rattle.fetch.proofs.place_fault.Goals as goal
 

@@ -1,5 +1,5 @@
 -- `go_on`: a minus sign, a byte that is no digit, or a digit. Assumes nothing.
-use Rattle.std.proofs.Common.{ℕ, ap, ◌∙◌, arith, rules}
+use Rattle.std.proofs.Common.{ℕ, ap, ◌∙◌, arith}
 use Rattle.words.specs.declared.Signed.{Signed}
 use Rattle.labelled.proofs.Steps.{goes-minus, goes-low, goes-high, goes-digit}
 use Rattle.labelled.proofs.go_on.Goals as goal

@@ -1,5 +1,5 @@
 -- `in_range`: zero has no sign, and the half is 2^(k - 1). Assumes nothing.
-use Rattle.std.proofs.Common.{ltb, leb, sym, ap, ◌∙◌, arith, rules}
+use Rattle.std.proofs.Common.{ltb, leb, sym, ap, ◌∙◌, arith}
 use Rattle.labelled.proofs.Words.{half_is, range-zero, range-negative, range-positive}
 use Rattle.labelled.proofs.in_range.Goals as goal
 

@@ -1,5 +1,5 @@
 -- `is_text_of`: the text is compared with what the job is written as in a room of its own. Assumes nothing.
-use Rattle.std.proofs.Common.{◌≡◌, length, take, sym, refl, ap, ◌∙◌, rules}
+use Rattle.std.proofs.Common.{◌≡◌, length, take, sym, refl, ap, ◌∙◌}
 use Rattle.words.proofs.Tests.{and_yes, and_no}
 use Rattle.decimal.proofs.Written.{take-written}
 use Rattle.labelled.specs.JobText.{lines_of}

@@ -1,5 +1,5 @@
 -- `job_in_range`: each of the four numbers is in range, up to the first that is not. Assumes nothing.
-use Rattle.std.proofs.Common.{◌≡◌, true, sym, refl, ◌∙◌, rules}
+use Rattle.std.proofs.Common.{◌≡◌, true, sym, refl, ◌∙◌}
 use Rattle.labelled.specs.Reading.{in_range, job_in_range}
 use Rattle.words.proofs.Tests.{and_yes, and_no}
 use Rattle.labelled.proofs.job_in_range.Goals as goal

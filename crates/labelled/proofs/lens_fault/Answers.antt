@@ -1,5 +1,5 @@
 -- `lens_fault`: the book's fault, and then a d other than 4. Assumes nothing.
-use Rattle.std.proofs.Common.{◌∙◌, rules}
+use Rattle.std.proofs.Common.{◌∙◌}
 use Rattle.labelled.specs.Calls.{lens_fault}
 use Rattle.labelled.proofs.lens_fault.Goals as goal
 

@@ -1,5 +1,5 @@
 -- `lens_job`: each word is in width. Assumes nothing.
-use Rattle.std.proofs.Common.{ℕ, ◌^◌, ◌<◌, ◌≤◌, get_or, arith, lit<, rules}
+use Rattle.std.proofs.Common.{ℕ, ◌^◌, ◌<◌, ◌≤◌, get_or, arith, lit<}
 use Rattle.words.proofs.Width.{width-at}
 use Rattle.labelled.specs.JobText.{lens_job}
 use Rattle.labelled.proofs.lens_job.Goals as goal

@@ -1,5 +1,5 @@
 -- `put_fixed`: a label, a number with two decimals and the end of the line, one after another. Assumes nothing.
-use Rattle.std.proofs.Common.{ℕ, ◌+◌, List, ◌++◌, length, arith, rules}
+use Rattle.std.proofs.Common.{ℕ, ◌+◌, List, ◌++◌, length, arith}
 use Rattle.decimal.specs.Decimal.{ascii, hundredths_text}
 use Rattle.decimal.proofs.Written.{Part, part_room, part-more}
 use Rattle.labelled.proofs.Lengths.{line-size}

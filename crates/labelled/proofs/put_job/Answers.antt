@@ -1,5 +1,5 @@
 -- `put_job`: the five lines, one after another, which have room. Assumes nothing.
-use Rattle.std.proofs.Common.{◌≡◌, ℕ, ◌≤◌, false, List, ◌++◌, length, refl, arith, rules}
+use Rattle.std.proofs.Common.{◌≡◌, ℕ, ◌≤◌, false, List, ◌++◌, length, refl, arith}
 use Rattle.words.specs.declared.Signed.{Signed}
 use Rattle.decimal.specs.Decimal.{ascii, sign, signed_text, hundredths_text}
 use Rattle.decimal.proofs.Written.{Part, wrote-line, part_room, part-more}

@@ -1,5 +1,5 @@
 -- `put_words`: the four words, one after another. Assumes nothing.
-use Rattle.std.proofs.Common.{◌∙◌, rules}
+use Rattle.std.proofs.Common.{◌∙◌}
 use Rattle.labelled.specs.Reading.{words_of}
 use Rattle.labelled.proofs.Words.{sphere-in, cylinder-in, axis-in, thickness-in, four-set}
 use Rattle.labelled.proofs.put_words.Goals as goal

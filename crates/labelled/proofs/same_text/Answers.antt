@@ -1,6 +1,5 @@
 -- `same_text`: at every turn the bytes that are left are compared as the texts are. Assumes nothing.
-use Rattle.std.proofs.Common.{◌≡◌, ◌-◌, ◌<◌, ◌≤◌, length, drop, sym, refl, ◌∙◌, add-one, arith, rules}
-use Rattle.labelled.specs.Reading.{same_text}
+use Rattle.std.proofs.Common.{◌<◌, ◌≤◌, length, sym, refl, ◌∙◌, add-one, arith, rules}
 use Rattle.labelled.proofs.Steps.{same-lengths, same_end, same_step, same-other}
 use Rattle.labelled.proofs.same_text.Goals as goal
 use Rattle.labelled.proofs.same_text.Goals.{At-loop-i}

@@ -1,7 +1,6 @@
 -- `same_text`: at every turn the bytes that are left are compared as the texts are. Assumes nothing.
-use Rattle.std.proofs.Common.{◌≡◌, ◌-◌, ◌<◌, ◌≤◌, length, drop, sym, refl, ◌∙◌, add-one, arith, rules}
+use Rattle.std.proofs.Common.{◌≡◌, ◌-◌, ◌≤◌, length, drop}
 use Rattle.labelled.specs.Reading.{same_text}
-use Rattle.labelled.proofs.Steps.{same-lengths, same_end, same_step, same-other}
 use Rattle.labelled.proofs.same_text.Given as goal
 
 abbrev pub invariant-loop-i : goal.invariant-loop-i

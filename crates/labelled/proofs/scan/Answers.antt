@@ -1,5 +1,4 @@
 -- `scan`: each line starts where the one before it ended. Assumes nothing.
-use Rattle.std.proofs.Common.{rules}
 use Rattle.labelled.proofs.Steps.{five-lines}
 use Rattle.labelled.proofs.scan.Goals as goal
 use Rattle.labelled.proofs.scan.Goals.{After-scan_line-b, After-scan_line-c, After-scan_line-d, After-scan_line-e}

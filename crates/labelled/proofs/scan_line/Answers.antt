@@ -1,6 +1,5 @@
 -- `scan_line`: at every turn the bytes that are left give what the line gives. Assumes nothing.
-use Rattle.std.proofs.Common.{◌≡◌, ◌-◌, ◌<◌, ◌≤◌, length, drop, sym, refl, ◌∙◌, add-one, arith, rules}
-use Rattle.labelled.specs.Reading.{number_from, nothing, after_line}
+use Rattle.std.proofs.Common.{◌<◌, ◌≤◌, length, sym, refl, ◌∙◌, add-one, arith, rules}
 use Rattle.labelled.proofs.Steps.{number-end, after-end, number-stop, after_stop, number_step, after-step}
 use Rattle.labelled.proofs.scan_line.Goals as goal
 use Rattle.labelled.proofs.scan_line.Goals.{At-loop-i, Else-c-eq10}

@@ -1,5 +1,5 @@
 -- `word_of`: a negative number's word is 2^k less its magnitude. Assumes nothing.
-use Rattle.std.proofs.Common.{◌-◌, ◌∙◌, arith, pow_pos, rules}
+use Rattle.std.proofs.Common.{◌-◌, ◌∙◌, arith, pow_pos}
 use Rattle.words.proofs.Reading.{negated, two-halves}
 use Rattle.labelled.specs.Reading.{word_of}
 use Rattle.labelled.proofs.Words.{low, high}

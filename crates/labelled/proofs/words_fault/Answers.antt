@@ -1,5 +1,5 @@
 -- `words_fault`: the length, and then the width. Assumes nothing.
-use Rattle.std.proofs.Common.{eqb, length, sym, ◌∙◌, lit<, rules, ne_eqb}
+use Rattle.std.proofs.Common.{eqb, length, sym, ◌∙◌, lit<, ne_eqb}
 use Rattle.words.specs.Faults.{length_fault}
 use Rattle.words.proofs.Faults.{clear-length}
 use Rattle.words.proofs.Refusal.{first-none, stop}

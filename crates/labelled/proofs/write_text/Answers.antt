@@ -1,5 +1,5 @@
 -- `write_text`: the text is written into a room of its own, and copied if the output has its length. Assumes nothing.
-use Rattle.std.proofs.Common.{◌≡◌, ℕ, eqb, List, length, take, sym, ap, ◌∙◌, ap₂, arith, rules, ne_eqb}
+use Rattle.std.proofs.Common.{◌≡◌, ℕ, eqb, List, length, take, sym, ap, ◌∙◌, ap₂, arith, ne_eqb}
 use Rattle.words.specs.Faults.{length_fault}
 use Rattle.words.specs.Refusal.{first}
 use Rattle.words.proofs.Faults.{clear-length}

@@ -1,7 +1,6 @@
 -- `file_size` gives the bytes of a file. Assumes nothing.
 use mathlib.Core.Path.{◌≡◌, ap, ap₂}
 use Prim.Native.Nat.{ℕ, ◌+◌, ◌*◌, ◌≤◌}
-use borrow.Author.Rules.{rules}
 use native.Mathlib.Omega.{arith}
 use Rattle.records.specs.Layout.{record_size, job_size, file_size}
 use Rattle.records.proofs.Lengths.{job-high, jobs_high, head-high}

@@ -3,7 +3,6 @@ use Prim.Native.Nat.{ℕ, ◌+◌, ◌<◌}
 use native.Mathlib.Omega.{arith}
 use lib.ListN.{get_or}
 use Rattle.records.proofs.Num.{le_at-four}
-use borrow.Author.Rules.{rules}
 use Rattle.records.proofs.half_at.Goals as goal
 use Rattle.records.proofs.half_at.Goals.{After-wide-2}
 

@@ -1,6 +1,5 @@
 -- `head_size` gives the bytes of a heading. Assumes nothing.
 use mathlib.Core.Path.{refl}
-use borrow.Author.Rules.{rules}
 use Rattle.records.specs.Layout.{record_size, head_len}
 use Rattle.records.proofs.head_size.Goals as goal
 

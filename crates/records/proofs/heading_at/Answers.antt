@@ -2,7 +2,6 @@
 use native.Mathlib.Omega.{arith}
 use Rattle.records.specs.Layout.{record_size, head_len}
 use Rattle.records.specs.Record.{heading_of}
-use borrow.Author.Rules.{rules}
 use Rattle.records.proofs.heading_at.Goals as goal
 
 pub byte_at-requires : goal.byte_at-requires

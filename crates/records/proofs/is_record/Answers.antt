@@ -7,7 +7,6 @@ use Rattle.records.specs.Layout.{record_size}
 use Rattle.records.specs.Record.{len_at, kind_at}
 use Rattle.records.proofs.Lengths.{known-min, known-max}
 use Rattle.records.proofs.Record.{not_within, not-len, is-kind}
-use borrow.Author.Rules.{rules}
 use Rattle.records.proofs.is_record.Goals as goal
 
 pub overflow_add-size : goal.overflow_add-size

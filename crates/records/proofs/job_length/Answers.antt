@@ -1,6 +1,5 @@
 -- `job_length` gives the length of a job record. Assumes nothing.
 use Prim.Native.Nat.{◌*◌, ◌≤◌}
-use borrow.Author.Rules.{rules}
 use native.Mathlib.Omega.{arith}
 use Rattle.records.specs.Layout.{word_size, job_len_of}
 use Rattle.records.proofs.job_length.Goals as goal

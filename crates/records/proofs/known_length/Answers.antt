@@ -1,7 +1,6 @@
 -- `known_length` tests a kind and a length: the tests that led to each return. Assumes nothing.
 use mathlib.Core.Path.{◌∙◌}
 use mathlib.Core.Bool.{or-false}
-use borrow.Author.Rules.{rules}
 use borrow.Author.Tests.{ne_eqb}
 use Rattle.records.specs.Layout.{known}
 use Rattle.records.proofs.known_length.Goals as goal

@@ -1,14 +1,10 @@
 -- The loop of `number`: x is the number in the bytes from i on. Assumes nothing.
 use mathlib.Core.Path.{◌≡◌, sym}
-use Prim.Native.Nat.{◌+◌, ◌-◌, ◌≤◌, ◌<◌, ◌^◌}
+use Prim.Native.Nat.{◌+◌, ◌-◌, ◌<◌, ◌^◌}
 use borrow.Author.Rules.{rules}
 use native.Mathlib.Omega.{arith}
-use lib.ListN.{drop}
-use Rattle.records.specs.Num.{part, le_num, le_at}
+use Rattle.records.specs.Num.{le_at}
 use Rattle.records.proofs.Num.{number_step, number-none, number_small}
-use Rattle.records.proofs.number.Reads as reads
-use Rattle.records.proofs.number.Lts as lts
-use Rattle.records.proofs.wide.Reads as wide-reads
 use Rattle.records.proofs.number.Goals as goal
 use Rattle.records.proofs.number.Goals.{After-wide-b}
 

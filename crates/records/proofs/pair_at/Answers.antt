@@ -2,7 +2,6 @@
 use Prim.Native.Nat.{◌+◌}
 use native.Mathlib.Omega.{arith}
 use Rattle.records.proofs.Num.{le_at-two}
-use borrow.Author.Rules.{rules}
 use Rattle.records.proofs.pair_at.Goals as goal
 
 pub overflow_mul-result : goal.overflow_mul-result

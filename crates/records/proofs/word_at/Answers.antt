@@ -4,7 +4,6 @@ use Prim.Native.Nat.{ℕ, ◌+◌, ◌<◌, ◌^◌}
 use native.Mathlib.Omega.{arith}
 use Rattle.records.specs.Num.{le_at}
 use Rattle.records.proofs.Num.{le_at-split, le_at-lt}
-use borrow.Author.Rules.{rules}
 use Rattle.records.proofs.word_at.Goals as goal
 use Rattle.records.proofs.word_at.Goals.{After-half_at-2}
 

@@ -1,12 +1,9 @@
 -- `rounds::clear_rows` meets its contract: after i turns the first i rows are zero. Assumes nothing.
-use borrow.Author.Rules.{rules}
-use native.Mathlib.Omega.{arith}
-use mathlib.Core.Path.{◌≡◌, refl}
-use Prim.Native.Nat.{◌-◌, ◌≤◌, ◌<◌}
-use lib.ListN.{take, replicate, length}
+use mathlib.Core.Path.{◌≡◌}
+use Prim.Native.Nat.{◌-◌, ◌≤◌}
+use lib.ListN.{take, replicate}
 use Rattle.polynomial.specs.Rows.{Shaped}
-use Rattle.polynomial.proofs.Shape.{shaped-length}
-use Rattle.rounds.proofs.Rows.{zero_row, shaped-set, clear-turn}
+use Rattle.rounds.proofs.Rows.{zero_row}
 use Rattle.rounds.proofs.clear_rows.Given as goal
 
 abbrev pub invariant-loop-i : goal.invariant-loop-i

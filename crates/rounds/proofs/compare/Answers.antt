@@ -1,5 +1,4 @@
 -- `rounds::compare` meets its contract: after each turn it has the holders and the bits of the shares passed. Assumes nothing.
-use borrow.Author.Rules.{rules}
 use native.Mathlib.Omega.{arith}
 use mathlib.Core.Path.{◌≡◌, refl, sym, ◌∙◌, ap}
 use mathlib.Core.List.{[]}
@@ -12,7 +11,7 @@ use Rattle.polynomial.proofs.Shape.{shaped_row}
 use Rattle.comparison.specs.Comparison.{gap}
 use Rattle.codewords.specs.Codeword.{differs}
 use Rattle.codewords.proofs.Without.{set_of, error_set-tally}
-use Rattle.level.specs.Shares.{share_at, shares_from, shares_of}
+use Rattle.level.specs.Shares.{share_at, shares_of}
 use Rattle.level.proofs.Shares.{from_end}
 use Rattle.rounds.specs.Residues.{bits_of, bits_of_all}
 use Rattle.rounds.proofs.Lowest.{bits-gap}

@@ -1,11 +1,9 @@
 -- `rounds::copy_rows` meets its contract: after i turns the first i rows are those of q. Assumes nothing.
-use borrow.Author.Rules.{rules}
 use native.Mathlib.Omega.{arith}
 use mathlib.Core.Path.{◌≡◌, refl}
 use mathlib.Core.List.{[]}
-use Prim.Native.Nat.{◌-◌, ◌≤◌, ◌<◌}
-use lib.ListN.{take, get_or, length}
-use Rattle.polynomial.specs.Rows.{Shaped}
+use Prim.Native.Nat.{◌<◌}
+use lib.ListN.{get_or, length}
 use Rattle.polynomial.proofs.Shape.{shaped-length, shaped_row}
 use Rattle.rounds.proofs.Rows.{shaped-set, copy-turn}
 use Rattle.rounds.proofs.copy_rows.Goals as goal

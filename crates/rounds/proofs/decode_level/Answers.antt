@@ -1,6 +1,5 @@
 -- `rounds::decode_level` meets its contract: what is left of the shares is zero where they agree with the polynomial (`Left`), and the
 -- lowest bit of it is one that the field decoder may look at. Assumes nothing.
-use borrow.Author.Rules.{rules}
 use native.Mathlib.Omega.{arith}
 use mathlib.Core.Path.{◌≡◌, ◌∙◌, ap}
 use mathlib.Core.List.{List, map}

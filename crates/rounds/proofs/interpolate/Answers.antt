@@ -1,14 +1,12 @@
 -- `rounds::interpolate` meets its contract: after each turn the rows go through the shares passed. Assumes nothing.
-use borrow.Author.Rules.{rules}
 use native.Mathlib.Omega.{arith}
 use mathlib.Core.Path.{refl}
-use Prim.Native.Nat.{suc, ◌+◌, ◌≤◌}
+use Prim.Native.Nat.{suc}
 use lib.ListN.{set}
 use Rattle.algebra.proofs.Shares.{all_map}
-use Rattle.polynomial.specs.Rows.{Shaped}
 use Rattle.level.specs.Shares.{shares_of}
 use Rattle.rounds.proofs.Rows.{one_row, shaped-set, clear-one}
-use Rattle.rounds.proofs.Interpolated.{Passed, interpolate-start, interpolate-turn, interpolate-end}
+use Rattle.rounds.proofs.Interpolated.{interpolate-start, interpolate-turn, interpolate-end}
 use Rattle.rounds.proofs.interpolate.Goals as goal
 use Rattle.rounds.proofs.interpolate.Goals.{At-loop-i, In-loop-i}
 

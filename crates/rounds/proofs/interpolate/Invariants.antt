@@ -1,14 +1,7 @@
 -- `rounds::interpolate` meets its contract: after each turn the rows go through the shares passed. Assumes nothing.
-use borrow.Author.Rules.{rules}
-use native.Mathlib.Omega.{arith}
-use mathlib.Core.Path.{refl}
-use Prim.Native.Nat.{suc, ◌+◌, ◌≤◌}
-use lib.ListN.{set}
-use Rattle.algebra.proofs.Shares.{all_map}
+use Prim.Native.Nat.{◌+◌, ◌≤◌}
 use Rattle.polynomial.specs.Rows.{Shaped}
-use Rattle.level.specs.Shares.{shares_of}
-use Rattle.rounds.proofs.Rows.{one_row, shaped-set, clear-one}
-use Rattle.rounds.proofs.Interpolated.{Passed, interpolate-start, interpolate-turn, interpolate-end}
+use Rattle.rounds.proofs.Interpolated.{Passed}
 use Rattle.rounds.proofs.interpolate.Given as goal
 
 abbrev pub invariant-loop-i : goal.invariant-loop-i

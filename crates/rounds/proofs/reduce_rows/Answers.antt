@@ -1,14 +1,12 @@
 -- `rounds::reduce_rows` meets its contract: after j turns the first j rows are cut. Assumes nothing.
-use borrow.Author.Rules.{rules}
 use native.Mathlib.Omega.{arith}
 use mathlib.Core.Path.{◌≡◌, sym, ◌∙◌}
 use mathlib.Core.List.{map, []}
-use Prim.Native.Nat.{suc, ◌-◌, ◌≤◌, ◌<◌}
+use Prim.Native.Nat.{suc, ◌≤◌, ◌<◌}
 use lib.ListN.{get_or, length}
-use lib.Seq.{paste, paste-zero}
+use lib.Seq.{paste-zero}
 use Rattle.galois.specs.Element.{reduce}
 use Rattle.galois.proofs.Lists.{length-reduce}
-use Rattle.polynomial.specs.Rows.{Shaped}
 use Rattle.polynomial.proofs.Shape.{shaped-length, shaped_row}
 use Rattle.rounds.proofs.Rows.{shaped-set, reduce-turn, reduce-end}
 use Rattle.rounds.proofs.reduce_rows.Goals as goal

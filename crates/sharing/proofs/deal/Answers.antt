@@ -7,7 +7,6 @@ use lib.ListN.{length}
 use Rattle.words.proofs.Refusal.{kept-none, kept-some}
 use Rattle.sharing.specs.Dealing.{dealt, deal_fault}
 use Rattle.sharing.proofs.Faults.{DealClear, deal-clear, few-holders}
-use borrow.Author.Rules.{rules}
 use Rattle.sharing.proofs.deal.Goals as goal
 use Rattle.sharing.proofs.deal.Goals.{Else-fault-ne0, Start}
 

@@ -1,5 +1,4 @@
 -- `sharing::lent_fault` meets its contract: the parameters' fault, the lengths', or the holders'. Assumes nothing.
-use borrow.Author.Rules.{rules}
 use native.Mathlib.Omega.{arith}
 use mathlib.Core.Path.{◌≡◌, sym, ap, ap₂, ◌∙◌}
 use Prim.Native.Nat.{ℕ, ◌*◌}

@@ -1,13 +1,10 @@
 use borrow.Author.Rules.{rules}
 use native.Mathlib.Omega.{arith}
 use mathlib.Core.Path.{◌≡◌, refl}
-use Prim.Native.Nat.{◌-◌, ◌≤◌}
 use lib.ListN.{length, replicate, length-set}
-use lib.Seq.{paste, paste-zero}
+use lib.Seq.{paste-zero}
 use Rattle.words.proofs.Fill.{fill-next}
 use Rattle.sharing.proofs.Loaded.{front}
-use Rattle.sharing.proofs.load_holders.Reads as reads
-use Rattle.sharing.proofs.load_holders.Lts as lts
 use Rattle.sharing.proofs.load_holders.Goals as goal
 use Rattle.sharing.proofs.load_holders.Goals.{At-loop-i}
 

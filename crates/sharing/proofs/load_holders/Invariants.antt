@@ -1,13 +1,7 @@
-use borrow.Author.Rules.{rules}
-use native.Mathlib.Omega.{arith}
-use mathlib.Core.Path.{◌≡◌, refl}
+use mathlib.Core.Path.{◌≡◌}
 use Prim.Native.Nat.{◌-◌, ◌≤◌}
-use lib.ListN.{length, replicate, length-set}
-use lib.Seq.{paste, paste-zero}
-use Rattle.words.proofs.Fill.{fill-next}
-use Rattle.sharing.proofs.Loaded.{front}
-use Rattle.sharing.proofs.load_holders.Reads as reads
-use Rattle.sharing.proofs.load_holders.Lts as lts
+use lib.ListN.{length, replicate}
+use lib.Seq.{paste}
 use Rattle.sharing.proofs.load_holders.Given as goal
 
 abbrev pub invariant-loop-i : goal.invariant-loop-i

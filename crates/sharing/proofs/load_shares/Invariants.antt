@@ -1,17 +1,8 @@
-use borrow.Author.Rules.{rules}
-use native.Mathlib.Omega.{arith}
-use mathlib.Core.Path.{◌≡◌, refl, sym, ap, ◌∙◌}
-use mathlib.Core.List.{[], map}
+use mathlib.Core.Path.{◌≡◌}
 use Prim.Native.Nat.{◌-◌, ◌≤◌}
-use native.Mathlib.Nat.{mul-le-mul_right}
-use lib.ListN.{length, take, replicate, length-set}
-use lib.Seq.{paste, paste-zero}
-use Rattle.words.proofs.Fill.{fill-next}
-use Rattle.sharing.proofs.Elements.{rows_of, rows-length, row_at, rows_back}
-use Rattle.sharing.proofs.Loaded.{front}
-use Rattle.sharing.proofs.load_shares.Reads as reads
-use Rattle.sharing.proofs.load_shares.Lts as lts
-use Rattle.ring.proofs.load.Reads as load-reads
+use lib.ListN.{length, replicate}
+use lib.Seq.{paste}
+use Rattle.sharing.proofs.Elements.{rows_of}
 use Rattle.sharing.proofs.load_shares.Given as goal
 
 abbrev pub invariant-loop-i : goal.invariant-loop-i

@@ -1,12 +1,9 @@
 use borrow.Author.Rules.{rules}
 use native.Mathlib.Omega.{arith}
-use mathlib.Core.Path.{◌≡◌, refl, sym, ◌∙◌}
-use Prim.Native.Nat.{◌-◌, ◌≤◌}
-use lib.ListN.{length, drop, drop_of_length-le}
+use mathlib.Core.Path.{refl, sym, ◌∙◌}
+use lib.ListN.{drop_of_length-le}
 use Rattle.sharing.specs.Opening.{rising_to}
 use Rattle.sharing.proofs.Lent.{rising-low, rising-high, rising-next}
-use Rattle.sharing.proofs.rising.Reads as reads
-use Rattle.sharing.proofs.rising.Lts as lts
 use Rattle.sharing.proofs.rising.Goals as goal
 use Rattle.sharing.proofs.rising.Goals.{At-loop-i}
 

@@ -1,12 +1,7 @@
-use borrow.Author.Rules.{rules}
-use native.Mathlib.Omega.{arith}
-use mathlib.Core.Path.{◌≡◌, refl, sym, ◌∙◌}
+use mathlib.Core.Path.{◌≡◌}
 use Prim.Native.Nat.{◌-◌, ◌≤◌}
-use lib.ListN.{length, drop, drop_of_length-le}
+use lib.ListN.{length, drop}
 use Rattle.sharing.specs.Opening.{rising_to}
-use Rattle.sharing.proofs.Lent.{rising-low, rising-high, rising-next}
-use Rattle.sharing.proofs.rising.Reads as reads
-use Rattle.sharing.proofs.rising.Lts as lts
 use Rattle.sharing.proofs.rising.Given as goal
 
 abbrev pub invariant-loop-i : goal.invariant-loop-i

@@ -1,13 +1,11 @@
 -- `sharing::share_by` meets its contract: a turn of the loop takes one coefficient more. Assumes nothing.
-use borrow.Author.Rules.{rules}
 use native.Mathlib.Omega.{arith}
 use mathlib.Core.Path.{◌≡◌, refl, sym, ◌∙◌}
 use Prim.Native.Nat.{ℕ, zero, suc, ◌-◌, ◌*◌, ◌<◌, ◌≤◌}
 use native.Mathlib.Nat.{zero-mul, suc-mul, mul-le-mul_right, le_refl}
-use Rattle.galois.specs.Element.{held, point}
+use Rattle.galois.specs.Element.{point}
 use Rattle.galois.proofs.Points.{length-point}
-use Rattle.sharing.proofs.Elements.{elements_from}
-use Rattle.sharing.proofs.Horner.{above, horner-start, horner-turn, horner-end}
+use Rattle.sharing.proofs.Horner.{horner-start, horner-turn, horner-end}
 use Rattle.sharing.proofs.share_by.Goals as goal
 use Rattle.sharing.proofs.share_by.Goals.{At-loop-at}
 

@@ -1,12 +1,11 @@
 -- `sharing::write_shares` meets its contract: a turn of the loop writes one share more. Assumes nothing.
-use borrow.Author.Rules.{rules}
 use native.Mathlib.Omega.{arith}
 use mathlib.Core.Path.{◌≡◌, refl, sym, ap, ◌∙◌}
 use mathlib.Core.List.{List, ◌∷◌}
 use Prim.Native.Nat.{ℕ, ◌+◌, ◌-◌, ◌*◌, ◌≤◌, ◌<◌}
 use native.Mathlib.Nat.{zero-mul, mul-le-mul_right, lt_of_mul-lt-mul_right}
 use lib.ListN.{length, take, drop}
-use lib.Seq.{paste, paste-zero}
+use lib.Seq.{paste-zero}
 use Rattle.words.proofs.Fill.{fill-chunk, fill-all}
 use Rattle.galois.specs.Element.{point}
 use Rattle.galois.proofs.Held.{held-take}

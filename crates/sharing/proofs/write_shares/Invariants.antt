@@ -1,21 +1,10 @@
 -- `sharing::write_shares` meets its contract: a turn of the loop writes one share more. Assumes nothing.
-use borrow.Author.Rules.{rules}
-use native.Mathlib.Omega.{arith}
-use mathlib.Core.Path.{◌≡◌, refl, sym, ap, ◌∙◌}
-use mathlib.Core.List.{List, ◌∷◌}
-use Prim.Native.Nat.{ℕ, ◌+◌, ◌-◌, ◌*◌, ◌≤◌, ◌<◌}
-use native.Mathlib.Nat.{zero-mul, mul-le-mul_right, lt_of_mul-lt-mul_right}
-use lib.ListN.{length, take, drop}
-use lib.Seq.{paste, paste-zero}
-use Rattle.words.proofs.Fill.{fill-chunk, fill-all}
-use Rattle.galois.specs.Element.{point}
-use Rattle.galois.proofs.Held.{held-take}
-use Rattle.polynomial.specs.Polynomial.{Polynomial, value}
-use Rattle.codewords.proofs.Value.{Rows}
-use Rattle.sharing.specs.Dealing.{elements_of, dealt_from, dealing, dealt}
-use Rattle.sharing.proofs.Elements.{elements-rows}
-use Rattle.sharing.proofs.Horner.{narrow-value}
-use Rattle.sharing.proofs.Dealt.{share-length, shares-length, share-at}
+use mathlib.Core.Path.{◌≡◌}
+use mathlib.Core.List.{◌∷◌}
+use Prim.Native.Nat.{◌+◌, ◌-◌, ◌*◌, ◌≤◌}
+use lib.ListN.{length}
+use lib.Seq.{paste}
+use Rattle.sharing.specs.Dealing.{elements_of, dealt_from}
 use Rattle.sharing.proofs.write_shares.Given as goal
 
 abbrev pub invariant-loop-at : goal.invariant-loop-at

@@ -6,12 +6,6 @@ use lib.ListN.{length, length-append}
 use Rattle.decimal.specs.Decimal.{ascii, decimal}
 use Rattle.text.specs.Text.{changed_line}
 use Rattle.decimal.proofs.Written.{Part, part_room, part-more}
-use borrow.Author.Rules.{rules}
-use Rattle.text.proofs.put_changed.Reads as reads
-use Rattle.text.proofs.put_changed.Lts as lts
-use Rattle.decimal.proofs.put_byte.Reads as put-byte-reads
-use Rattle.decimal.proofs.put_bytes.Reads as put-bytes-reads
-use Rattle.decimal.proofs.put_decimal.Reads as put-decimal-reads
 use Rattle.text.proofs.put_changed.Goals as goal
 use Rattle.text.proofs.put_changed.Goals.{After-put_byte, After-put_bytes-q, After-put_decimal-p, After-put_decimal-r, Start}
 

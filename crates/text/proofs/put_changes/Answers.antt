@@ -8,12 +8,9 @@ use native.Mathlib.Nat.{pos_of_ne-zero}
 use lib.ListN.{length, length-append}
 use lib.Count.{count_trailing_zeros}
 use Rattle.text.specs.Text.{holders, changed_line, changed_lines}
-use Rattle.decimal.proofs.Written.{Left, left-all, left-more, left-none}
+use Rattle.decimal.proofs.Written.{left-all, left-more, left-none}
 use Rattle.text.proofs.Holders.{next-room, next-lt}
 use Rattle.text.proofs.Lines.{changes-length, rest_lines, changes-next, changes-last}
-use Rattle.text.proofs.put_changes.Reads as reads
-use Rattle.text.proofs.put_changes.Lts as lts
-use Rattle.text.proofs.put_changed.Reads as put-changed-reads
 use Rattle.text.proofs.put_changes.Goals as goal
 use Rattle.text.proofs.put_changes.Goals.{In-loop-w}
 

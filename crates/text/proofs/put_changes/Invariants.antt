@@ -1,19 +1,10 @@
 -- `put_changes`: each turn writes the line of the lowest holder that is left; what is left to write shrinks to nothing. Assumes nothing.
-use borrow.Author.Rules.{rules}
-use native.Mathlib.Omega.{arith}
-use mathlib.Core.Path.{◌≡◌, refl, ap, ◌∙◌}
-use mathlib.Core.List.{◌++◌}
-use Prim.Native.Nat.{ℕ, ◌+◌, ◌-◌, ◌/◌, ◌^◌, ◌≤◌, ◌<◌}
-use native.Mathlib.Nat.{pos_of_ne-zero}
-use lib.ListN.{length, length-append}
-use lib.Count.{count_trailing_zeros}
-use Rattle.text.specs.Text.{holders, changed_line, changed_lines}
-use Rattle.decimal.proofs.Written.{Left, left-all, left-more, left-none}
-use Rattle.text.proofs.Holders.{next-room, next-lt}
-use Rattle.text.proofs.Lines.{changes-length, rest_lines, changes-next, changes-last}
-use Rattle.text.proofs.put_changes.Reads as reads
-use Rattle.text.proofs.put_changes.Lts as lts
-use Rattle.text.proofs.put_changed.Reads as put-changed-reads
+use mathlib.Core.Path.{◌≡◌}
+use Prim.Native.Nat.{◌-◌, ◌^◌, ◌≤◌, ◌<◌}
+use lib.ListN.{length}
+use Rattle.text.specs.Text.{holders, changed_lines}
+use Rattle.decimal.proofs.Written.{Left}
+use Rattle.text.proofs.Lines.{rest_lines}
 use Rattle.text.proofs.put_changes.Given as goal
 
 abbrev pub invariant-loop-w : goal.invariant-loop-w

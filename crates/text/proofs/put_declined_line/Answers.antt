@@ -5,12 +5,6 @@ use Rattle.decimal.specs.Decimal.{ascii, decimal}
 use Rattle.decimal.proofs.Written.{Part, part_room, part-more}
 use Rattle.decimal.proofs.Decimal.{twenty}
 use Rattle.text.proofs.Lines.{declined-parts}
-use borrow.Author.Rules.{rules}
-use Rattle.text.proofs.put_declined_line.Reads as reads
-use Rattle.text.proofs.put_declined_line.Lts as lts
-use Rattle.decimal.proofs.put_byte.Reads as put-byte-reads
-use Rattle.decimal.proofs.put_bytes.Reads as put-bytes-reads
-use Rattle.decimal.proofs.put_decimal.Reads as put-decimal-reads
 use Rattle.text.proofs.put_declined_line.Goals as goal
 use Rattle.text.proofs.put_declined_line.Goals.{After-put_byte-q, After-put_bytes, After-put_decimal-p, After-put_decimal-r, Start}
 

@@ -6,11 +6,6 @@ use lib.ListN.{length, get_or, length-append}
 use Rattle.decimal.specs.Decimal.{ascii, decimal}
 use Rattle.text.specs.Text.{holder_text}
 use Rattle.decimal.proofs.Written.{Wrote, wrote-more}
-use borrow.Author.Rules.{rules}
-use Rattle.text.proofs.put_holder.Reads as reads
-use Rattle.text.proofs.put_holder.Lts as lts
-use Rattle.decimal.proofs.put_byte.Reads as put-byte-reads
-use Rattle.decimal.proofs.put_decimal.Reads as put-decimal-reads
 use Rattle.text.proofs.put_holder.Goals as goal
 use Rattle.text.proofs.put_holder.Goals.{After-put_byte-q, After-put_decimal-p, Start}
 

@@ -10,10 +10,6 @@ use Rattle.text.specs.Text.{holders, holder_text, holders_text}
 use Rattle.decimal.proofs.Written.{Left, left-all, left-more, left-none}
 use Rattle.text.proofs.Holders.{next-room, next-lt}
 use Rattle.text.proofs.Joined.{rest_text, after_text, no-holders, holders-next, holders-last, holders-comma}
-use Rattle.text.proofs.put_holders.Reads as reads
-use Rattle.text.proofs.put_holders.Lts as lts
-use Rattle.decimal.proofs.put_byte.Reads as put-byte-reads
-use Rattle.text.proofs.put_holder.Reads as put-holder-reads
 use Rattle.text.proofs.put_holders.Goals as goal
 use Rattle.text.proofs.put_holders.Goals.{After-put_holder-p, At-loop-w}
 

@@ -7,12 +7,6 @@ use Rattle.text.specs.Text.{line_room, refused_line, kept_line}
 use Rattle.decimal.proofs.Written.{Part, part_room, part-more}
 use Rattle.decimal.proofs.Decimal.{twenty}
 use Rattle.text.proofs.Lines.{refused-length}
-use borrow.Author.Rules.{rules}
-use Rattle.text.proofs.put_kept.Reads as reads
-use Rattle.text.proofs.put_kept.Lts as lts
-use Rattle.decimal.proofs.put_byte.Reads as put-byte-reads
-use Rattle.decimal.proofs.put_decimal.Reads as put-decimal-reads
-use Rattle.text.proofs.put_refused.Reads as put-refused-reads
 use Rattle.text.proofs.put_kept.Goals as goal
 use Rattle.text.proofs.put_kept.Goals.{After-put_byte-q, After-put_decimal-p, After-put_refused, Start}
 

@@ -8,14 +8,6 @@ use Rattle.decimal.proofs.Written.{Part, part_room, part-more}
 use Rattle.decimal.proofs.Decimal.{twenty}
 use Rattle.text.proofs.Lines.{holders-length, words_length, open-parts}
 use Rattle.words.specs.declared.Signed.{Signed}
-use borrow.Author.Rules.{rules}
-use Rattle.text.proofs.put_open_line.Reads as reads
-use Rattle.text.proofs.put_open_line.Lts as lts
-use Rattle.decimal.proofs.put_byte.Reads as put-byte-reads
-use Rattle.decimal.proofs.put_bytes.Reads as put-bytes-reads
-use Rattle.decimal.proofs.put_decimal.Reads as put-decimal-reads
-use Rattle.text.proofs.put_holders.Reads as put-holders-reads
-use Rattle.text.proofs.put_words.Reads as put-words-reads
 use Rattle.text.proofs.put_open_line.Goals as goal
 use Rattle.text.proofs.put_open_line.Goals.{After-put_byte, After-put_byte-s, After-put_bytes-q, After-put_decimal-p, After-put_holders-r, After-put_words-t, Start}
 

@@ -1,16 +1,13 @@
 -- The loop of `add_jobs`: the jobs passed are added, and their words taken together. Assumes nothing.
-use borrow.Author.Rules.{rules}
 use native.Mathlib.Omega.{arith}
 use native.Mathlib.Nat.{mul-le-mul_right}
 use mathlib.Core.Path.{◌≡◌, refl, ◌∙◌}
-use Prim.Native.Nat.{ℕ, ◌+◌, ◌-◌, ◌*◌, ◌≤◌, ◌<◌}
+use Prim.Native.Nat.{ℕ, ◌+◌, ◌*◌, ◌≤◌, ◌<◌}
 use lib.Bits.{bit_or}
-use lib.ListN.{length, take, drop}
-use Rattle.words.specs.Word.{in_width, all_in_width}
-use Rattle.galois.specs.Element.{Element, sum, reduce}
+use lib.ListN.{length}
+use Rattle.words.specs.Word.{all_in_width}
+use Rattle.galois.specs.Element.{Element}
 use Rattle.bundle.proofs.Contents.{words_count}
-use Rattle.totals.specs.Values.{every}
-use Rattle.totals.specs.Total.{sum_to}
 use Rattle.totals.proofs.Added.{added_none, added_more, added-rest}
 use Rattle.totals.proofs.Words.{none_seen, more-seen, lanes}
 use Rattle.totals.proofs.Runs.{job_words}

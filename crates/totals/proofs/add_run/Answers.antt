@@ -1,5 +1,4 @@
 -- `add_run`: in each arm the contract of `add_jobs` at that d, of the jobs of the run; the words are then cut. Assumes nothing.
-use borrow.Author.Rules.{rules}
 use native.Mathlib.Omega.{arith}
 use mathlib.Core.Path.{◌≡◌, refl, ap, ◌∙◌}
 use mathlib.Core.List.{List, ◌++◌}

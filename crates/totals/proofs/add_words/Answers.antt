@@ -1,14 +1,12 @@
 -- The loop of `add_words`: the first j words are added where they stand, and taken together; two more a turn. Assumes nothing.
-use borrow.Author.Rules.{rules}
 use native.Mathlib.Omega.{arith}
 use mathlib.Core.Path.{◌≡◌, refl, sym, ap, ◌∙◌}
 use mathlib.Core.Bool.{Bool, ◌&&◌}
 use mathlib.Core.List.{List}
-use Prim.Native.Nat.{ℕ, ◌+◌, ◌-◌, ◌*◌, ◌≤◌, ◌<◌}
+use Prim.Native.Nat.{ℕ, ◌+◌, ◌*◌, ◌≤◌, ◌<◌}
 use native.Mathlib.Nat.{zero-add, le_of_eq}
 use lib.ListN.{length, get_or, set, drop, length-set}
 use lib.Bits.{bit_or, or_self}
-use lib.Seq.{paste}
 use Rattle.words.specs.Word.{add_w, in_width, all_in_width}
 use Rattle.words.proofs.Fill.{fill-within}
 use Rattle.words.proofs.Width.{none_seen, one_seen, all_seen}

@@ -1,25 +1,14 @@
 -- The loop of `add_words`: the first j words are added where they stand, and taken together; two more a turn. Assumes nothing.
-use borrow.Author.Rules.{rules}
-use native.Mathlib.Omega.{arith}
-use mathlib.Core.Path.{◌≡◌, refl, sym, ap, ◌∙◌}
-use mathlib.Core.Bool.{Bool, ◌&&◌}
+use mathlib.Core.Path.{◌≡◌}
+use mathlib.Core.Bool.{◌&&◌}
 use mathlib.Core.List.{List}
-use Prim.Native.Nat.{ℕ, ◌+◌, ◌-◌, ◌*◌, ◌≤◌, ◌<◌}
-use native.Mathlib.Nat.{zero-add, le_of_eq}
-use lib.ListN.{length, get_or, set, drop, length-set}
-use lib.Bits.{bit_or, or_self}
+use Prim.Native.Nat.{ℕ, ◌+◌, ◌-◌, ◌*◌, ◌≤◌}
+use lib.ListN.{length, drop}
+use lib.Bits.{bit_or}
 use lib.Seq.{paste}
-use Rattle.words.specs.Word.{add_w, in_width, all_in_width}
-use Rattle.words.proofs.Fill.{fill-within}
-use Rattle.words.proofs.Width.{none_seen, one_seen, all_seen}
+use Rattle.words.specs.Word.{in_width, all_in_width}
 use Rattle.galois.specs.Element.{Element, sum}
-use Rattle.records.specs.Num.{le_at}
 use Rattle.bundle.specs.Contents.{words_from}
-use Rattle.bundle.proofs.Contents.{words_count, words-at}
-use Rattle.totals.specs.Total.{added_to}
-use Rattle.totals.proofs.Sums.{zip-within}
-use Rattle.totals.proofs.Added.{zip-count, fill_here}
-use Rattle.totals.proofs.Words.{lanes, in-turn}
 use Rattle.totals.proofs.add_words.Given as goal
 
 -- the first j words are added, and those seen

@@ -1,12 +1,11 @@
 -- The loop of `cut_words`: the first j words are cut. Assumes nothing.
-use borrow.Author.Rules.{rules}
 use native.Mathlib.Omega.{arith}
 use mathlib.Core.Path.{◌≡◌, refl, ◌∙◌}
 use mathlib.Core.List.{List}
-use Prim.Native.Nat.{ℕ, ◌-◌, ◌%◌, ◌^◌, ◌≤◌}
+use Prim.Native.Nat.{ℕ, ◌%◌, ◌^◌}
 use native.Mathlib.Nat.{zero-add}
 use lib.ListN.{length, take, length-set}
-use lib.Seq.{paste, length-take-le, get_or-take}
+use lib.Seq.{length-take-le, get_or-take}
 use Rattle.words.proofs.Fill.{fill-within}
 use Rattle.galois.specs.Element.{reduce}
 use Rattle.galois.proofs.Lists.{length-reduce}

@@ -1,5 +1,4 @@
 -- `load_word`: the first word of the bytes from a position on is the word there. Assumes nothing.
-use borrow.Author.Rules.{rules}
 use mathlib.Core.Path.{◌∙◌}
 use Rattle.records.proofs.Num.{le_at-from}
 use Rattle.totals.proofs.load_word.Goals as goal

@@ -1,5 +1,4 @@
 -- `locate`: each return is a case of the number for a run of a holder's file. Assumes nothing.
-use borrow.Author.Rules.{rules}
 use mathlib.Core.Path.{ap₂, ◌∙◌}
 use mathlib.Core.List.{List}
 use Prim.Native.Nat.{ℕ}

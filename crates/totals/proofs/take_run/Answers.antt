@@ -1,5 +1,4 @@
 -- `take_run`: the negative of the lent element, with the run's total added, is the negative of what is left. Assumes nothing.
-use borrow.Author.Rules.{rules}
 use mathlib.Core.List.{List}
 use Prim.Native.Nat.{ℕ, ◌-◌, ◌≤◌}
 use Rattle.bundle.proofs.Bundles.{bundle-ok, ranges-of}

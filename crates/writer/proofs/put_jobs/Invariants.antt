@@ -1,21 +1,13 @@
 -- The loop of `put_jobs`: the first p jobs are written. Assumes nothing.
-use mathlib.Core.Path.{◌≡◌, refl, sym, ap, ◌∙◌}
-use Prim.Native.Nat.{ℕ, ◌+◌, ◌-◌, ◌*◌, ◌≤◌, ◌<◌}
-use native.Mathlib.Nat.{mul-le-mul_right}
-use mathlib.Core.List.{List, ◌++◌}
-use borrow.Author.Rules.{rules}
-use native.Mathlib.Omega.{arith}
-use lib.ListN.{length, get_or, take, drop, length-append}
-use lib.Seq.{take_all}
-use Rattle.records.specs.Layout.{record_size, job_size}
-use Rattle.bundle.specs.Contents.{Job}
+use mathlib.Core.Path.{◌≡◌}
+use Prim.Native.Nat.{ℕ, ◌-◌, ◌*◌, ◌≤◌}
+use mathlib.Core.List.{List}
+use lib.ListN.{length, take}
+use Rattle.records.specs.Layout.{job_size}
 use Rattle.records.specs.declared.Heading.{Heading}
-use Rattle.records.proofs.Lengths.{job-high}
-use Rattle.writer.specs.Bytes.{job_bytes, jobs_bytes}
-use Rattle.writer.specs.Write.{job_of, jobs_of}
-use Rattle.writer.proofs.Put.{Written, written_none, written-more, written-length, written-end}
-use Rattle.writer.proofs.Fits.{job-length}
-use Rattle.writer.proofs.Calls.{jobs-count, jobs-more, job-words}
+use Rattle.writer.specs.Bytes.{jobs_bytes}
+use Rattle.writer.specs.Write.{jobs_of}
+use Rattle.writer.proofs.Put.{Written}
 use Rattle.writer.proofs.put_jobs.Given as goal
 
 -- where the loop stands at place p: what is written

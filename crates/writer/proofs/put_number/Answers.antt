@@ -1,7 +1,6 @@
 -- The loop of `put_number`: the bytes before i are written. Assumes nothing.
-use Prim.Native.Nat.{◌-◌}
 use native.Mathlib.Omega.{arith}
-use Rattle.writer.proofs.Put.{PutAt, put-start, put-length, put-done, put_next}
+use Rattle.writer.proofs.Put.{put-start, put-length, put-done, put_next}
 use Rattle.writer.proofs.put_number.Goals as goal
 
 pub loop-i-init : goal.loop-i-init

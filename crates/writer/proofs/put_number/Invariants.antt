@@ -1,7 +1,6 @@
 -- The loop of `put_number`: the bytes before i are written. Assumes nothing.
 use Prim.Native.Nat.{◌-◌}
-use native.Mathlib.Omega.{arith}
-use Rattle.writer.proofs.Put.{PutAt, put-start, put-length, put-done, put_next}
+use Rattle.writer.proofs.Put.{PutAt}
 use Rattle.writer.proofs.put_number.Given as goal
 
 abbrev pub invariant-loop-i : goal.invariant-loop-i

@@ -1,7 +1,6 @@
 -- `put_prefix`: two numbers, one after the other. Assumes nothing.
 use Prim.Native.Nat.{◌+◌}
 use mathlib.Core.List.{[], ◌++◌}
-use borrow.Author.Rules.{rules}
 use native.Mathlib.Omega.{arith}
 use Rattle.records.specs.Num.{le_bytes}
 use Rattle.records.proofs.Num.{length-le_bytes}

@@ -1,16 +1,10 @@
 -- The loop of `put_words`: the first i words are written. Assumes nothing.
-use mathlib.Core.Path.{◌≡◌, refl, ap, ◌∙◌}
-use Prim.Native.Nat.{ℕ, ◌+◌, ◌-◌, ◌*◌, ◌≤◌, ◌<◌}
-use mathlib.Core.List.{List, ◌++◌}
-use borrow.Author.Rules.{rules}
-use native.Mathlib.Omega.{arith}
-use lib.ListN.{length, get_or, take, drop, length-drop}
-use lib.Seq.{length-take-le, get_or-take, get_or-drop, take_all}
-use Rattle.records.specs.Num.{le_bytes}
+use mathlib.Core.Path.{◌≡◌}
+use Prim.Native.Nat.{ℕ, ◌+◌, ◌-◌, ◌*◌, ◌≤◌}
+use mathlib.Core.List.{List}
+use lib.ListN.{length, take, drop}
 use Rattle.writer.specs.Bytes.{words_bytes}
-use Rattle.writer.proofs.Put.{Written, written_none, written-number, written-length, written-end}
-use Rattle.writer.proofs.Fits.{words_length}
-use Rattle.writer.proofs.Calls.{words_more}
+use Rattle.writer.proofs.Put.{Written}
 use Rattle.writer.proofs.put_words.Given as goal
 
 abbrev pub S : List ℕ → ℕ → ℕ → List ℕ

@@ -1,13 +1,8 @@
 -- The loop of `strictly_rising`: the numbers before place i rise. Assumes nothing.
-use mathlib.Core.Path.{◌≡◌, refl, sym, ◌∙◌}
-use Prim.Native.Nat.{ℕ, zero, suc, ◌+◌, ◌-◌, ◌≤◌, ◌<◌}
-use mathlib.Core.List.{List}
-use mathlib.Core.Bool.{false}
-use borrow.Author.Rules.{rules}
-use native.Mathlib.Omega.{arith}
-use lib.ListN.{length, get_or, drop}
+use mathlib.Core.Path.{◌≡◌}
+use Prim.Native.Nat.{◌-◌, ◌≤◌}
+use lib.ListN.{length, drop}
 use Rattle.writer.specs.Write.{rising}
-use Rattle.writer.proofs.Calls.{rising-more, rising-stop, rising-end}
 use Rattle.writer.proofs.strictly_rising.Given as goal
 
 abbrev pub invariant-loop-i : goal.invariant-loop-i

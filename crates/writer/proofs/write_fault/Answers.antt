@@ -4,7 +4,6 @@ use Prim.Native.Nat.{ℕ}
 use mathlib.Core.Bool.{true}
 use mathlib.Core.List.{List}
 use lib.ListN.{length}
-use borrow.Author.Rules.{rules}
 use Rattle.words.specs.Faults.{width_fault}
 use Rattle.words.specs.Refusal.{first, unless}
 use Rattle.words.proofs.Refusal.{first-none, first_some}

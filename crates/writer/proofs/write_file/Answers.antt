@@ -2,10 +2,8 @@
 use mathlib.Core.Path.{◌≡◌, refl, sym, ap, ◌∙◌}
 use Prim.Native.Nat.{ℕ, ◌+◌, ◌*◌, ◌≤◌}
 use mathlib.Core.List.{List, [], ◌++◌}
-use borrow.Author.Rules.{rules}
 use native.Mathlib.Omega.{arith}
 use lib.ListN.{length, length-append}
-use Rattle.words.specs.Refusal.{kept}
 use Rattle.words.proofs.Refusal.{kept-none, kept-some}
 use Rattle.records.specs.Layout.{head_size, job_size, file_size}
 use Rattle.records.specs.declared.Heading.{Heading}

@@ -10,7 +10,6 @@ use Rattle.records.specs.Layout.{body_at, record_size, body_size, known}
 use Rattle.records.specs.Record.{len_at, kind_at}
 use Rattle.records.proofs.Record.{read-end, read_short, read-unknown, read-cut, read-record, told}
 use Rattle.records.proofs.Lengths.{known-min}
-use borrow.Author.Rules.{rules}
 use Rattle.records.proofs.Cursor.read.Goals as goal
 use Rattle.records.proofs.Cursor.read.Goals.{After-known_length, Else-bytes-at-2}
 
