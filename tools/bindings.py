@@ -1,5 +1,5 @@
 #!/usr/bin/env python3
-"""The exported calls as C and Rust declare them, made from the lines `#[no_mangle] pub extern "C" fn` of crates/*/src.
+"""The exported calls as C and Rust declare them, made from the lines `#[unsafe(no_mangle)] pub extern "C" fn` of crates/*/src.
 
   tools/bindings.py            C prototypes, and then Rust declarations
   tools/bindings.py --check    exit 1 if include/yikescanvas.h or rust/yikescanvas/src/ffi.rs declares other calls, or one with another result or with
@@ -25,8 +25,8 @@ def read(path):
 
 
 def sources():
-    for folder, _, names in sorted(os.walk(os.path.join(TOP, 'crates'))):
-        if os.path.basename(folder) == 'src':
+    for crate in sorted(os.listdir(os.path.join(TOP, 'crates'))):
+        for folder, _, names in sorted(os.walk(os.path.join(TOP, 'crates', crate, 'src'))):
             yield from (os.path.relpath(os.path.join(folder, n), TOP) for n in sorted(names) if n.endswith('.rt'))
 
 
@@ -40,7 +40,7 @@ def exported():
     calls = {}
     for path in sources():
         text = re.sub(r'//.*', '', read(path))
-        for m in re.finditer(r'#\[no_mangle\]\s*pub extern "C" fn (\w+)\s*\(([^)]*)\)(?:\s*->\s*(\w+))?', text):
+        for m in re.finditer(r'#\[unsafe\(no_mangle\)\]\s*pub extern "C" fn (\w+)\s*\(([^)]*)\)(?:\s*->\s*(\w+))?', text):
             call, parameters, result = m.groups()
             out = []
             for parameter in split(parameters):

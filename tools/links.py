@@ -26,9 +26,10 @@ def read(path):
 
 
 def sources():
-    """Every file of code, definitions and proofs of functions or laws."""
-    for folder, _, names in sorted(os.walk(os.path.join(TOP, 'crates'))):
-        if '/must-fail' not in folder:
+    """Every file of code, definitions and proofs of functions or laws; what rt leaves in out/ is none."""
+    crates = os.path.join(TOP, 'crates')
+    for folder, _, names in sorted(os.walk(crates)):
+        if not {'must-fail', 'out'} & set(os.path.relpath(folder, crates).split(os.sep)):
             yield from (os.path.relpath(os.path.join(folder, n), TOP) for n in sorted(names) if n.endswith(('.rt', '.antt')))
 
 

@@ -23,9 +23,9 @@ def read(path):
 
 
 def module_path(module):
-    """The file of a module's name, below crates/, or None for one of the kit's."""
-    m = re.match(r'Rattle·([a-z_]+)(?:·(?:specs|proofs))?\.(specs|proofs)\.(.+)$', module)
-    if not m:
+    """The file of a module's name, below crates/, or None for one of the kit's, as std's."""
+    m = re.match(r'Rattle\.(\w+)\.(specs|proofs)\.(.+)$', module)
+    if not m or not os.path.isdir(os.path.join(TOP, 'crates', m.group(1))):
         return None
     crate, kind, rest = m.groups()
     if rest.startswith('declared.'):
@@ -39,20 +39,17 @@ class Module:
     def __init__(self, path):
         self.path = path
         lines = [re.sub(r'(^|\s)--( .*)?$', '', line) for line in read(path).split('\n')]
-        self.uses, self.passed, self.defs = {}, {}, {}
+        self.uses, self.passed, self.modules, self.defs = {}, {}, {}, {}
         headers = []
         i = 0
         while i < len(lines):
             line = lines[i]
-            m = re.match(r'(?:(?:unfoldable )?(pub) )?use (\S+?)\.\{(.*)\}$', line)
-            m = m or re.match(r'(?:unfoldable (pub) )use (\S+?)\.\{(.*)\}$', line)
+            m = re.match(r'(?:unfoldable )?(pub )?use (\S+?)(\.\{.*| as \S+)?$', line)
             if m:
-                for item in m.group(3).split(','):
-                    name, _, alias = item.strip().partition(' as ')
-                    where = (module_path(m.group(2)), name)
-                    self.uses[alias or name] = where
-                    if m.group(1):
-                        self.passed[alias or name] = where
+                while '{' in line and '}' not in line:
+                    i += 1
+                    line += ' ' + lines[i].strip()
+                self.use(m.group(1), m.group(2), line[m.end(2):])
                 i += 1
                 continue
             indent = len(line) - len(line.lstrip())
@@ -83,6 +80,18 @@ class Module:
                 head.append(line)
             above = '\n'.join(h[1] for h in headers)
             self.defs[m.group(1)] = ('\n'.join(body) + '\n' + above, '\n'.join(head) + '\n' + above, len([x for x in body if x.strip()]))
+
+    def use(self, is_passed, path, rest):
+        """An import: of names, in braces, or of a module, by its own name or another."""
+        if not rest.startswith('.{'):
+            self.modules[rest.partition(' as ')[2] or path.split('.')[-1]] = module_path(path)
+            return
+        for item in rest.strip('.{}').split(','):
+            name, _, alias = item.strip().partition(' as ')
+            where = (module_path(path), name)
+            self.uses[alias or name] = where
+            if is_passed:
+                self.passed[alias or name] = where
 
     @staticmethod
     def ends(lines, i, indent):
@@ -124,10 +133,14 @@ def bound(text):
 
 
 def resolve(text, uses, own):
-    """The definitions that a text mentions: words that no dot precedes, so no fields."""
+    """The definitions that a text mentions: words that no dot precedes, so no fields, and names of a module, M.f."""
     found = set()
-    text = re.sub(r'\s\.[^\s(){}\[\],;]+', ' ', text)
+    modules = module(own).modules if own else {}
     local = bound(text)
+    for above, name in re.findall(r"(?<![^\s(){}\[\],;])([^\s(){}\[\],;.]+)\.([^\s(){}\[\],;.]+)", text):
+        at = place(modules[above], name) if modules.get(above) and above not in local else None
+        found |= {at} if at else set()
+    text = re.sub(r'(?<![λ\s])\.(?=[^\s.])[^\s(){}\[\],;]+', ' ', text)
     for word in WORD.findall(text):
         if word in local:
             continue
@@ -144,13 +157,16 @@ def exported():
     """What the contracts of the exported calls mention."""
     text = read('crates/boundary/src/lib.rt')
     uses = {}
-    for m in re.finditer(r'^ghost use (\S+?)\.\{(.*)\};$', text, re.M):
+    for m in re.finditer(r'^ghost use (\S+?)\.\{(.*?)\};$', text, re.M | re.S):
         for item in m.group(2).split(','):
             name, _, alias = item.strip().partition(' as ')
-            uses[alias or name] = (module_path(m.group(1).replace('Rattle·boundary·specs.specs', 'Rattle·boundary.specs')), name)
+            uses[alias or name] = (module_path(m.group(1)), name)
     found = set()
-    for m in re.finditer(r'#\[no_mangle\]\npub extern "C" fn .*?\n\{', text, re.S):
-        found |= resolve(m.group(0), uses, None)
+    for m in re.finditer(r'^#\[unsafe\(no_mangle\)\]\npub extern "C" fn .*?^\{', text, re.S | re.M):
+        parameters, _, clauses = m.group(0).partition(')')
+        clauses = re.sub(r'\b(requires|ensures)\b(\*?) \w+ \{', r'\1\2 {', clauses)
+        names = set(re.findall(r'(\w+):', parameters))
+        found |= resolve(clauses, {name: at for name, at in uses.items() if name not in names}, None)
     return found
 
 
@@ -209,7 +225,7 @@ def table(seen):
 
 
 def order(path):
-    crates = [line.split(':')[0] for line in read('crates.txt').split('\n') if ':' in line]
+    crates = [line.split(':')[0].split()[0] for line in read('crates.txt').split('\n') if ':' in line and not line.startswith('#')]
     return (crates.index(path.split('/')[1]), path)
 
 
@@ -237,7 +253,7 @@ def main():
             path = '%s/%s' % (folder, name)
             if name == 'Lib.antt':
                 continue
-            if re.search(r'^(unfoldable )?(pub )?use Rattle·\S*proofs', read(path), re.M):
+            if any('/proofs/' in (module_path(used) or '') for used in re.findall(r'^(?:unfoldable )?(?:pub )?use (\S+?)(?:\.\{| |$)', read(path), re.M)):
                 faults.append('%s cites proofs/' % path)
             internal = read(path).split('\n')[0].startswith('-- ' + INTERNAL)
             reached = any(p == path for p, _ in seen)
