@@ -1,5 +1,5 @@
 /*
- * Yikescanvas: an archive of jobs in shares. The calls of the static library libboundary.a, which `rt staticlib boundary` builds.
+ * Yikescanvas: an archive of jobs in shares. The calls of the static library libboundary.a, which `tools/build.sh boundary` builds.
  *
  * A book is four numbers: k, the bits of a word, 1 to 64; d, the words of an element, 2 to 6; n, the holders, 1 to 2^d - 1; t, the degree,
  * 0 to n - 1. A job is one element: d words, each below 2^k. Any t + 1 + 2e shares open a job, whatever up to e of them hold.

@@ -5,12 +5,10 @@ set -u
 cd "$(dirname "$0")/.." || exit 2
 name=documents
 . tools/library.sh
-open=${OPEN:-target/bin/open}
-mend=${MEND:-target/bin/mend}
-jobtext=${JOBTEXT:-target/bin/jobtext}
-for program in "$open" "$mend" "$jobtext"; do
-  [ -x "$program" ] || fail "no program at $program"
-done
+. tools/programs.sh
+open=$(program_at "${OPEN:-target/bin/open}") || exit 1
+mend=$(program_at "${MEND:-target/bin/mend}") || exit 1
+jobtext=$(program_at "${JOBTEXT:-target/bin/jobtext}") || exit 1
 python3 tools/documents.py "$open" "$mend" "$jobtext" >"$work/log" || fail "a document says something else" "$work/log"
 
 python3 tools/documents.py --block program >"$work/program.c"

@@ -3,12 +3,11 @@
 # and all refuse empty, cut and overlong ones, within a stack of 256 KiB, and within a second each (the slowest takes 0.02).
 set -u
 cd "$(dirname "$0")/.." || exit 2
-open=${OPEN:-target/bin/open}
-mend=${MEND:-target/bin/mend}
-jobtext=${JOBTEXT:-target/bin/jobtext}
-for program in "$open" "$mend" "$jobtext"; do
-  [ -x "$program" ] || { echo "limits: no program at $program"; exit 1; }
-done
+name=limits
+. tools/programs.sh
+open=$(program_at "${OPEN:-target/bin/open}") || exit 1
+mend=$(program_at "${MEND:-target/bin/mend}") || exit 1
+jobtext=$(program_at "${JOBTEXT:-target/bin/jobtext}") || exit 1
 work=$(mktemp -d) || exit 2
 trap 'rm -rf "$work"' EXIT
 

@@ -1,5 +1,6 @@
 # Sourced by the tests that run the programs: a folder of their own in work, and judge, which counts what passes. `name` is the test's.
 # shellcheck shell=bash
+. tools/programs.sh
 work=$(mktemp -d) || exit 2
 trap 'rm -rf "$work"' EXIT
 passed=0
@@ -14,14 +15,6 @@ judge() { # WHAT TEST..: a case that fails is told of with the first lines of $w
     echo "$name: $what"
     head -n 3 "$work/err"
   fi
-}
-
-program_at() { # PATH: the path, where a program stands there
-  if [ ! -x "$1" ] || [ -d "$1" ]; then
-    echo "$name: no program at $1" >&2
-    return 1
-  fi
-  echo "$1"
 }
 
 verdict() {

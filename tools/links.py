@@ -14,8 +14,8 @@ TOP = os.path.dirname(os.path.dirname(os.path.abspath(__file__)))
 HEADER = 'include/yikescanvas.h'
 INDEX = 'docs/THEOREMS.md'
 DOCUMENTS = ['README.md', 'docs/THEOREMS.md', 'docs/REFERENCE.md', 'docs/SECRECY.md', 'docs/CONTRIBUTING.md', 'docs/DECISIONS.md', 'docs/PERFORMANCE.md']
-# Words in backquotes that are neither declared here nor callers' names: the language's, and those of the C library.
-OUTSIDE = {'requires', 'errno', 'memcpy', 'memset', 'sched_yield', 'strerror_r', 'close', 'fsync', 'unlink'}
+# Words in backquotes that are neither declared here nor callers' names: the language's, its library's, and those of the C library.
+OUTSIDE = {'requires', 'std::io', 'std::fs', 'std::env', 'std::thread', 'memcpy', 'memset'}
 CALLERS = [HEADER, 'rust/yikescanvas/src/lib.rs', 'crates/boundary/src/lib.rt', 'crates.txt']
 LINKED = re.compile(r'\[(`[^`]+`)\]\([^)]*\)')
 

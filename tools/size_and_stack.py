@@ -1,5 +1,5 @@
 #!/usr/bin/env python3
-"""The size of each exported call and the stack that it uses, as the table of docs/PERFORMANCE.md: `rt staticlib boundary` first.
+"""The size of each exported call and the stack that it uses, as the table of docs/PERFORMANCE.md: `tools/build.sh boundary` first.
 
 Size is the bytes of the call's own code, and of all the code that it reaches, each function once. Stack is what tests/boundary/stack.c measures."""
 import os, re, subprocess, sys, tempfile

@@ -10,12 +10,14 @@ times=${2:-20}
 work=$(mktemp -d) || exit 2
 trap 'rm -rf "$work"' EXIT
 case $name in
-open) command=("${OPEN:-target/bin/open}") ;;
-mend) command=("${MEND:-target/bin/mend}" "$work/new") ;;
-jobtext) command=("${JOBTEXT:-target/bin/jobtext}") ;;
+open) path=${OPEN:-target/bin/open} ;;
+mend) path=${MEND:-target/bin/mend} ;;
+jobtext) path=${JOBTEXT:-target/bin/jobtext} ;;
 *) echo "usage: stack.sh open|mend|jobtext [TIMES]"; exit 2 ;;
 esac
-[ -x "${command[0]}" ] || { echo "stack: no program at ${command[0]}"; exit 1; }
+. tools/programs.sh
+command=("$(program_at "$path")") || exit 1
+[ "$name" != mend ] || command+=("$work/new")
 
 # Whether every stored case holds within a limit, in KiB.
 holds() {

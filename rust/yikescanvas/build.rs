@@ -1,4 +1,4 @@
-//! Links libboundary.a from the directory in YIKES_LIB_DIR, or from target/staticlib of the repository, where `rt staticlib boundary` writes it.
+//! Links libboundary.a from the directory in YIKES_LIB_DIR, or from target/staticlib of the repository, where `tools/build.sh boundary` puts it.
 use std::path::PathBuf;
 
 fn main() {
