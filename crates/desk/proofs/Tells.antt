@@ -3,13 +3,13 @@
 use mathlib.Core.Path.{◌≡◌, refl, sym, ap, ◌∙◌, subst}
 use mathlib.Core.Bool.{true}
 use mathlib.Core.Logic.{inl, inr}
-use mathlib.Core.List.{List, []}
+use mathlib.Core.List.{List}
 use Prim.Native.Nat.{ℕ, zero, suc, ◌≤◌}
 use native.Mathlib.Omega.{arith}
 use native.Mathlib.Decide.{dec_le}
 use lib.ListN.{length, get_or}
 use Rattle.words.specs.Faults.{length_fault}
-use Rattle.words.specs.Refusal.{first, kept, LENGTH, OUT_OF_RANGE, DESK_CLOSED}
+use Rattle.words.specs.Refusal.{first, LENGTH, OUT_OF_RANGE, DESK_CLOSED}
 use Rattle.words.proofs.Faults.{clear-length, length-clear}
 use Rattle.words.proofs.Refusal.{first-left, first-right, first-none, first_holds, unless_holds, kept-none, kept-some}
 use Rattle.codewords.specs.Demand.{Outputs, Returned}

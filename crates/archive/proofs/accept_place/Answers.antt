@@ -1,5 +1,4 @@
 -- `accept_place`: the bundle's number, or the first of the outputs' and the place's. Assumes nothing.
-use borrow.Author.Rules.{rules}
 use mathlib.Core.Path.{sym, ap₂, ◌∙◌}
 use Rattle.words.specs.Refusal.{first}
 use Rattle.codewords.specs.Opening.{declines}

@@ -3,12 +3,12 @@ use borrow.Author.Rules.{rules}
 use native.Mathlib.Omega.{arith}
 use mathlib.Core.Path.{◌≡◌, ap, ◌∙◌}
 use mathlib.Core.List.{◌++◌}
-use Prim.Native.Nat.{ℕ, ◌-◌, ◌≤◌}
+use Prim.Native.Nat.{ℕ, ◌≤◌}
 use lib.ListN.{length, drop, replicate, length-replicate}
 use Rattle.bundle.specs.Bundle.{holder_of}
 use Rattle.bundle.proofs.Bundles.{bundle-ok, files-most}
 use Rattle.totals.specs.Values.{values_from}
-use Rattle.totals.proofs.Values.{filled, values-start, values-next, values-done}
+use Rattle.totals.proofs.Values.{values-start, values-next, values-done}
 use Rattle.archive.proofs.load_holders.Goals as goal
 use Rattle.archive.proofs.load_holders.Goals.{Start}
 

@@ -1,14 +1,9 @@
 -- The loop of `load_holders`: the holders passed are in their places. Assumes nothing.
-use borrow.Author.Rules.{rules}
-use native.Mathlib.Omega.{arith}
-use mathlib.Core.Path.{◌≡◌, ap, ◌∙◌}
-use mathlib.Core.List.{◌++◌}
-use Prim.Native.Nat.{ℕ, ◌-◌, ◌≤◌}
-use lib.ListN.{length, drop, replicate, length-replicate}
+use mathlib.Core.Path.{◌≡◌}
+use Prim.Native.Nat.{◌-◌, ◌≤◌}
+use lib.ListN.{replicate}
 use Rattle.bundle.specs.Bundle.{holder_of}
-use Rattle.bundle.proofs.Bundles.{bundle-ok, files-most}
-use Rattle.totals.specs.Values.{values_from}
-use Rattle.totals.proofs.Values.{filled, values-start, values-next, values-done}
+use Rattle.totals.proofs.Values.{filled}
 use Rattle.archive.proofs.load_holders.Given as goal
 
 abbrev pub invariant-loop-f : goal.invariant-loop-f

@@ -1,11 +1,10 @@
 -- The loop of `load_place`: the rows passed are the words of the files' jobs, which are taken together. Assumes nothing.
-use borrow.Author.Rules.{rules}
 use native.Mathlib.Omega.{arith}
 use mathlib.Core.Path.{◌≡◌, sym, ap, ◌∙◌}
 use mathlib.Core.Bool.{Bool}
-use Prim.Native.Nat.{ℕ, ◌-◌, ◌≤◌, ◌<◌}
+use Prim.Native.Nat.{ℕ, ◌≤◌, ◌<◌}
 use lib.ListN.{length, length-set}
-use Rattle.words.specs.Word.{in_width, all_in_width}
+use Rattle.words.specs.Word.{all_in_width}
 use Rattle.galois.specs.Element.{Element, held}
 use Rattle.galois.proofs.Held.{held-length}
 use Rattle.records.specs.declared.Heading.{Heading}
@@ -13,7 +12,7 @@ use Rattle.bundle.specs.Bundle.{params_of, files_of}
 use Rattle.bundle.specs.Contents.{words_of}
 use Rattle.bundle.proofs.Bundles.{bundle-ok, ranges-of, files-most}
 use Rattle.totals.specs.Values.{every}
-use Rattle.totals.proofs.Values.{filled, values-start, values-next, values-done}
+use Rattle.totals.proofs.Values.{values-start, values-next, values-done}
 use Rattle.totals.proofs.Words.{words_length, padded, padded-width, none_seen, more-seen, together, six-width}
 use Rattle.archive.proofs.load_place.Goals as goal
 use Rattle.archive.proofs.load_place.Goals.{After-job_words-w, At-loop-f, Start}

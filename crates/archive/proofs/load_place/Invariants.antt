@@ -1,20 +1,13 @@
 -- The loop of `load_place`: the rows passed are the words of the files' jobs, which are taken together. Assumes nothing.
-use borrow.Author.Rules.{rules}
-use native.Mathlib.Omega.{arith}
-use mathlib.Core.Path.{◌≡◌, sym, ap, ◌∙◌}
-use mathlib.Core.Bool.{Bool}
-use Prim.Native.Nat.{ℕ, ◌-◌, ◌≤◌, ◌<◌}
-use lib.ListN.{length, length-set}
+use mathlib.Core.Path.{◌≡◌}
+use Prim.Native.Nat.{◌-◌, ◌≤◌}
+use lib.ListN.{length}
 use Rattle.words.specs.Word.{in_width, all_in_width}
-use Rattle.galois.specs.Element.{Element, held}
-use Rattle.galois.proofs.Held.{held-length}
-use Rattle.records.specs.declared.Heading.{Heading}
-use Rattle.bundle.specs.Bundle.{params_of, files_of}
+use Rattle.galois.specs.Element.{held}
+use Rattle.bundle.specs.Bundle.{params_of}
 use Rattle.bundle.specs.Contents.{words_of}
-use Rattle.bundle.proofs.Bundles.{bundle-ok, ranges-of, files-most}
 use Rattle.totals.specs.Values.{every}
-use Rattle.totals.proofs.Values.{filled, values-start, values-next, values-done}
-use Rattle.totals.proofs.Words.{words_length, padded, padded-width, none_seen, more-seen, together, six-width}
+use Rattle.totals.proofs.Values.{filled}
 use Rattle.archive.proofs.load_place.Given as goal
 
 abbrev pub invariant-loop-f : goal.invariant-loop-f

@@ -1,5 +1,4 @@
 -- `open_place`: a refusal ahead of the opening, or what the place opens to. Assumes nothing.
-use borrow.Author.Rules.{rules}
 use mathlib.Core.Path.{refl, sym, ◌∙◌}
 use lib.ListN.{length}
 use Rattle.archive.proofs.Calls.{place-declines, place-opens}

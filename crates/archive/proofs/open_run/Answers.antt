@@ -1,15 +1,14 @@
 -- `open_run`: the bundle's number, a refusal ahead of the opening, or what the run opens to, handed out. Assumes nothing.
 use borrow.Author.Rules.{rules}
-use mathlib.Core.Path.{◌≡◌, refl, sym, ap, ap₂, ◌∙◌}
+use mathlib.Core.Path.{◌≡◌, refl, ap, ap₂, ◌∙◌}
 use mathlib.Core.List.{List}
 use Prim.Native.Nat.{ℕ, ◌-◌}
 use lib.ListN.{length}
 use Rattle.words.specs.Refusal.{first}
 use Rattle.polynomial.specs.Rows.{Rows}
 use Rattle.codewords.specs.Codeword.{Share}
-use Rattle.codewords.specs.Opening.{Opening, wrong_into, lowest_into, lowest_room}
+use Rattle.codewords.specs.Opening.{Opening, wrong_into, lowest_into}
 use Rattle.codewords.proofs.Opening.{Handed, handed}
-use Rattle.level.specs.Shares.{shares_of}
 use Rattle.rounds.proofs.Rows.{zero-shaped}
 use Rattle.records.specs.declared.Heading.{Heading}
 use Rattle.bundle.specs.Bundle.{bundle_fault, bundle_heading, files_of}

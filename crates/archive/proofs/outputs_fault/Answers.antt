@@ -1,6 +1,5 @@
 -- `outputs_fault` meets its contract. Assumes nothing.
-use borrow.Author.Rules.{rules}
-use mathlib.Core.Path.{◌≡◌, ap₂, ◌∙◌}
+use mathlib.Core.Path.{ap₂, ◌∙◌}
 use Rattle.words.specs.Refusal.{first}
 use Rattle.archive.specs.Archive.{outputs_fault}
 use Rattle.archive.proofs.outputs_fault.Goals as goal

@@ -1,5 +1,4 @@
 -- `open_by`: a refusal, or what the place opens to, counted where it gives words. Assumes nothing.
-use borrow.Author.Rules.{rules}
 use mathlib.Core.Path.{◌≡◌, refl, sym, ap, ◌∙◌}
 use Prim.Native.Nat.{ℕ}
 use lib.ListN.{length}

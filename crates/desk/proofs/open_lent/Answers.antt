@@ -1,5 +1,4 @@
 -- `open_lent`: a record of another length, or the opening through the desk of its two words. Assumes nothing.
-use borrow.Author.Rules.{rules}
 use native.Mathlib.Omega.{arith}
 use mathlib.Core.Path.{refl, ap, ◌∙◌}
 use lib.ListN.{length, get_or, set}

@@ -1,5 +1,4 @@
 -- `start_by`: the two numbers stay, or are the new ones. Assumes nothing.
-use borrow.Author.Rules.{rules}
 use mathlib.Core.Path.{sym, ◌∙◌}
 use Rattle.words.proofs.Refusal.{kept-none, kept-some}
 use Rattle.desk.proofs.start_by.Goals as goal

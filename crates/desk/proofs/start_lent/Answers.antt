@@ -1,5 +1,4 @@
 -- `start_lent`: the record stays, or is the new one. Assumes nothing.
-use borrow.Author.Rules.{rules}
 use native.Mathlib.Omega.{arith}
 use mathlib.Core.Path.{refl, sym, ◌∙◌}
 use Rattle.words.proofs.Refusal.{kept-none, kept-some}

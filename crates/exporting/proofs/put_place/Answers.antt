@@ -53,7 +53,7 @@ returns-then-opened-ne0 c =
     let p = c.put_kept in
     wrote-line s.args.out.now _ (export_at (bs s) s.args.place) (kept_line (number a) o.result.fault) p.result
     (export-kept (bs s) s.args.place s.args.h s.requires.1 (number a) n.ensures o.result.fault o.result.wrong (rows a)
-    o.ensures.0 o.ensures.1.0 c.if-opened-ne0.true)
+    o.ensures.opening o.ensures.wrong c.if-opened-ne0.true)
     p.ensures (kept-length (number a) o.result.fault (omega arith) (omega arith))
 
 pub slice_bounds-words-end : goal.slice_bounds-words-end
@@ -75,7 +75,7 @@ lens_job-job-requires c =
       length-take-le 4 (row a) (omega (arith, row-length a)),
       ap (λ (d : ℕ). all_in_width s.args.h.params.k (take d (row a))) (sym s.requires.2)
           ∙ narrow (bs s) s.args.place s.args.h s.requires.1 (number a) n.ensures o.result.fault o.result.wrong (rows a)
-          o.ensures.0 o.ensures.1.0 c.if-opened-ne0.false o.ensures.1.1.1,
+          o.ensures.opening o.ensures.wrong c.if-opened-ne0.false o.ensures.shaped,
     )
 
 pub put_job-requires : goal.put_job-requires
@@ -92,7 +92,7 @@ opened-text c =
     let h = s.args.h in
     let n = a.job_number-number in
     export-opened (bs s) s.args.place h s.requires.1 (number a) n.ensures o.result.fault o.result.wrong (rows a)
-    o.ensures.0 o.ensures.1.0 c.if-opened-ne0.false o.ensures.1.1.1
+    o.ensures.opening o.ensures.wrong c.if-opened-ne0.false o.ensures.shaped
     ∙ ap (λ (d : ℕ). text_of h.params.k (number a) (take d (row a))) s.requires.2
     ∙ ap lines_of (sym c.lens_job-job.ensures)
 

@@ -52,17 +52,19 @@ pub returns-then-accepted-ne0 : goal.returns-then-accepted-ne0
 returns-then-accepted-ne0 c =
     let s = (goal.at.returns-then-accepted-ne0 c).Start in
     let r = c.accept-accepted in
-    declined s r.result.fault
-    (line_refused (bs s) r.result r.ensures s.args.place (length (old s)) (length (size s)) c.if-accepted-ne0.true) c.if-accepted-ne0.true
+    let k = declined s r.result.fault
+    (line_refused (bs s) r.result r.ensures s.args.place (length (old s)) (length (size s)) c.if-accepted-ne0.true) c.if-accepted-ne0.true in
+    record { fault = k.0; line = k.1.0; size = k.1.1 }
 
 pub returns-then-fault-ne0 : goal.returns-then-fault-ne0
 returns-then-fault-ne0 c =
     let f = (goal.at.returns-then-fault-ne0 c).After-first-fault in
     let s = (goal.at.After-first-fault f).Start in
     let r = c.accept-accepted in
-    declined s f.first-fault.result
+    let k = declined s f.first-fault.result
     (line-told (bs s) r.result r.ensures s.args.place (length (old s)) (length (size s)) c.if-accepted-ne0.false f.first-fault.result (told f))
-    c.if-fault-ne0.true
+    c.if-fault-ne0.true in
+    record { fault = k.0; line = k.1.0; size = k.1.1 }
 
 pub put_line-n-requires : goal.put_line-n-requires
 put_line-n-requires c =
@@ -97,10 +99,10 @@ returns c =
     let r = c.accept-accepted in
     let e = line-told (bs s) r.result r.ensures s.args.place (length (old s)) (length (size s)) c.if-accepted-ne0.false f.first-fault.result (told f)
     ∙ c.if-fault-ne0.false in
-    let p = c.put_line-n in (
-      sym e,
-      (
-        p.ensures.0 ∙ sym (kept-none (F s) (old s) (written 0 (text s) (old s)) e),
-        set_single (size s) _ (one c) ∙ ap (λ (x : ℕ). x ∷ []) p.ensures.1 ∙ sym (kept-none (F s) (size s) (length (text s) ∷ []) e),
-      ),
-    )
+    let p = c.put_line-n in
+    record {
+      fault = sym e;
+      line = p.ensures.0 ∙ sym (kept-none (F s) (old s) (written 0 (text s) (old s)) e);
+      size =
+          set_single (size s) _ (one c) ∙ ap (λ (x : ℕ). x ∷ []) p.ensures.1 ∙ sym (kept-none (F s) (size s) (length (text s) ∷ []) e);
+    }

@@ -51,7 +51,7 @@ returns-then-opened-ne0 c =
     wrote-line s.args.out.now _ (line_of (bs s) s.args.place) (declined_line (number a) o.result.fault)
     c.put_declined_line.result
     (declined-line (bs s) s.args.place s.args.h s.requires.1 (number a) n.ensures o.result.fault o.result.wrong (rows a)
-    o.ensures.0 o.ensures.1.0 c.if-opened-ne0.true)
+    o.ensures.opening o.ensures.wrong c.if-opened-ne0.true)
     c.put_declined_line.ensures (declined-length (number a) o.result.fault (omega arith) (omega arith))
 
 pub lowest_bits-requires : goal.lowest_bits-requires
@@ -64,11 +64,11 @@ lowest_bits-requires c =
       k.0,
       k.1,
       rw (arrays (bs s) h s.requires.1 s.args.files s.requires.2 _ (shares a) a.load_holders-holders.ensures) k.2,
-      o.ensures.1.1.1,
+      o.ensures.shaped,
       search rules,
-      rw o.ensures.1.1.0
+      rw o.ensures.shares
           (set_is (bs s) s.args.place h s.requires.1 (number a) a.job_number-number.ensures o.result.fault o.result.wrong (rows a)
-          o.ensures.0 o.ensures.1.0 c.if-opened-ne0.false o.ensures.1.1.1),
+          o.ensures.opening o.ensures.wrong c.if-opened-ne0.false o.ensures.shaped),
     )
 
 abbrev lowest : After-lowest_bits → List ℕ
@@ -89,7 +89,7 @@ put_open_line-requires c =
       (k.k-low, k.k-high),
       (omega (arith, k.d-low), k.d-high),
       narrow (bs s) s.args.place s.args.h s.requires.1 (number a) a.job_number-number.ensures o.result.fault o.result.wrong (rows a)
-          o.ensures.0 o.ensures.1.0 f.if-opened-ne0.false o.ensures.1.1.1,
+          o.ensures.opening o.ensures.wrong f.if-opened-ne0.false o.ensures.shaped,
       ap length (found f) ∙ positions-length p.k p.d (poly a) (shares_at (bs s) s.args.place),
       s.requires.4,
     )
@@ -109,7 +109,7 @@ returns c =
     wrote-line s.args.out.now _ (line_of (bs s) s.args.place) (open_line (number a) o.result.wrong (lowest f) (readings p.k p.d row))
     c.put_open_line.result
     (open-line (bs s) s.args.place h s.requires.1 (number a) n.ensures o.result.fault o.result.wrong (rows a)
-    o.ensures.0 o.ensures.1.0 f.if-opened-ne0.false o.ensures.1.1.1 (lowest f) (found f))
+    o.ensures.opening o.ensures.wrong f.if-opened-ne0.false o.ensures.shaped (lowest f) (found f))
     c.put_open_line.ensures
     (open-length (number a) o.result.wrong (lowest f) p.k (take p.d row) (omega arith)
     (rw (found f) (positions-bytes p.k p.d (poly a) (shares_at (bs s) s.args.place))) k.k-high m)

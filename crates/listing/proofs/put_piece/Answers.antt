@@ -25,7 +25,7 @@ pub returns-then-i-eq0 : goal.returns-then-i-eq0
 returns-then-i-eq0 c =
     let s = (goal.at.returns-then-i-eq0 c).Start in
     let a = s.args.accepted in
-    let p = c.Put-refused in
+    let p = c.put_refused in
     wrote-line (old s) _ (piece (bs s) s.args.i) (refused_line a.fault) p.result
     (piece-refused (bs s) a s.requires.0 c.if-accepted-ne0.true s.args.i
     c.if-i-eq0.true)

@@ -16,7 +16,17 @@ use Rattle.bundle.proofs.Bundles.{accept-fault, accept-none, accept-files, accep
 use Rattle.mending.specs.Mended.{mended, mend_fault}
 use Rattle.mending.proofs.Mended.{mended-start}
 use Rattle.mending.proofs.mend.Goals as goal
-use Rattle.mending.proofs.mend.Goals.{After-accept-accepted, After-out-1, After-put_bytes-arg-1, After-struct_known-1, Else-accepted-ne0, Else-out-bytes}
+use Rattle.mending.proofs.mend.Goals.{After-accept-accepted, After-put_bytes, Else-accepted-ne0, Else-out-bytes}
+
+-- the fault, case by case
+module _ (bs : List ℕ) (n : ℕ) where
+  by-bundle : (bundle_fault bs ≡ 0 → ⊥) → mend_fault bs n ≡ bundle_fault bs
+  unfolding mend_fault
+  by-bundle = first_some (bundle_fault bs) _
+
+  by_length : bundle_fault bs ≡ 0 → mend_fault bs n ≡ unless (eqb n (length bs)) LENGTH
+  unfolding mend_fault length_fault
+  by_length = first-none (bundle_fault bs) _
 
 -- bytes written over others, as many
 copied : (bs out : List ℕ) → length out ≡ length bs → take 0 out ++ (bs ++ drop (0 + length bs) out) ≡ bs
@@ -52,9 +62,9 @@ returns-then-out-bytes c =
 
 pub mend_jobs-requires : goal.mend_jobs-requires
 mend_jobs-requires c =
-    let p = (goal.at.mend_jobs-requires c).After-out-1 in
-    let f = (goal.at.After-out-1 p).Else-out-bytes in
-    let a = (goal.at.Else-out-bytes f).After-struct_known-1 in
+    let p = (goal.at.mend_jobs-requires c).After-put_bytes in
+    let f = (goal.at.After-put_bytes p).Else-accepted-ne0 in
+    let a = (goal.at.Else-accepted-ne0 f).After-accept-accepted in
     let r = a.accept-accepted in
     let b : Bytes (bs a) = λ i. (a.shared_slice_known-1.given i).fits in (
       fine f,
@@ -65,9 +75,9 @@ mend_jobs-requires c =
 
 pub returns : goal.returns
 returns c =
-    let o = (goal.at.returns c).After-put_bytes-arg-1 in
-    let f = (goal.at.After-put_bytes-arg-1 o).Else-out-bytes in
-    let a = (goal.at.Else-out-bytes f).After-struct_known-1 in
+    let o = (goal.at.returns c).Else-out-bytes in
+    let f = (goal.at.Else-out-bytes o).Else-accepted-ne0 in
+    let a = (goal.at.Else-accepted-ne0 f).After-accept-accepted in
     let e : mend_fault (bs a) (length (out a)) ≡ 0 =
     by_length (bs a) (length (out a)) (fine f) ∙ unless-yes _ LENGTH (eq-eqb _ _ o.if-out-bytes.false) in
     (sym e, c.mend_jobs.ensures ∙ sym (kept-none _ (out a) _ e))

@@ -6,7 +6,6 @@ use Prim.Native.Nat.{ℕ, ◌+◌, ◌*◌, ◌≤◌}
 use native.Mathlib.Omega.{arith}
 use lib.ListN.{length}
 use lib.Seq.{length-take-le}
-use borrow.Author.Tests.{not-true, not-false}
 use Rattle.records.specs.Num.{Bytes}
 use Rattle.records.specs.Layout.{word_size, job_len_of}
 use Rattle.fetch.proofs.Places.{job-asks, job-spot, job-fits}
@@ -63,7 +62,7 @@ returns-then-not-names c =
     s.requires.6
     ∙ turn-left (bs s) s.requires.0 s.args.h s.requires.1 s.args.f o.file_holder-holder.result s.requires.2 o.file_holder-holder.ensures
     (are-bytes o) s.args.place s.args.opened.wrong s.requires.5
-    (bit-clear _ (sym c.names.ensures ∙ not-true _ c.if-not-names.true))
+    (bit-clear _ (sym c.names.ensures ∙ c.if-not-names.true))
 
 pub job_at-requires : goal.job_at-requires
 job_at-requires c =
@@ -101,7 +100,7 @@ returns c =
     let v = c.value_at-words in
     turn-put (bs s) s.requires.0 s.args.h s.requires.1 s.args.f o.file_holder-holder.result s.requires.2 o.file_holder-holder.ensures
     (are-bytes o) s.args.place s.args.opened.wrong s.requires.5 s.requires.3 s.args.opened.fault s.args.rows s.requires.4
-    (bit-set _ (sym a.names.ensures ∙ not-false _ a.if-not-names.false)) v.result a.job_at.result s.args.out.now c.put_words.new.out v.ensures
+    (bit-set _ (sym a.names.ensures ∙ a.if-not-names.false)) v.result a.job_at.result s.args.out.now c.put_words.new.out v.ensures
     (job-spot (bs s) s.requires.0 s.args.h s.requires.1 s.args.f s.requires.2 s.args.place a.job_at.result s.requires.3
     a.job_at.ensures)
     s.requires.6 c.put_words.ensures

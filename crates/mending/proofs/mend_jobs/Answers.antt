@@ -23,7 +23,7 @@ mend_place-requires c =
 pub loop-p-preserved : goal.loop-p-preserved
 loop-p-preserved c =
     let m = c.mend_place in
-    (search rules, m.ensures.1.1, m.auto.1.1.1.1.0 ∙ c.loop-p.invariant.2)
+    (search rules, m.ensures.out, m.auto.out ∙ c.loop-p.invariant.2)
 
 pub returns : goal.returns
 returns c =

@@ -24,5 +24,5 @@ returns c =
     let p = a.args.h.params in
     let o = a.place_opening-opened in
     let g = handed p.k p.d p.t (shares_at (bs a) a.args.place) o.result.fault (rows a) o.result.wrong
-    (place_opening (bs a) a.args.place) o.ensures.1.1.1 o.ensures.0 o.ensures.1.0 in
-    (g.fault, (o.ensures.1.0, c.mend_files.ensures))
+    (place_opening (bs a) a.args.place) o.ensures.shaped o.ensures.opening o.ensures.wrong in
+    record { fault = g.fault; wrong = o.ensures.wrong; out = c.mend_files.ensures }

@@ -15,7 +15,7 @@ use Rattle.listing.proofs.Input.{fault-is, input_none, input-heading, input-file
 use Rattle.mending.specs.Report.{report_piece}
 use Rattle.mending.proofs.Report.{piece-accepted, piece-refused, pieces-accepted, output-next, output-refused}
 use Rattle.mending.proofs.put_piece.Goals as goal
-use Rattle.mending.proofs.put_piece.Goals.{After-put_place, After-shared_slice_known-1, Start}
+use Rattle.mending.proofs.put_piece.Goals.{After-put_place, Start}
 
 abbrev bs : Start → List ℕ
 bs s = s.args.bytes.now
@@ -28,16 +28,18 @@ returns-then-accepted-ne0 c =
     let s = (goal.at.returns-then-accepted-ne0 c).Start in
     let f = s.args.accepted.fault in
     let i = s.args.i in
-    let p = c.Put-refused in
-    let n : input_fault (bs s) ≡ 0 → ⊥ = λ z. c.if-accepted-ne0.true (sym (fault s) ∙ z) in (
-      s.requires.2 ∙ output-refused (bs s) i n ∙ sym (output-refused (bs s) (i + 1) n),
-      wrote-line s.args.text.now _ (report_piece (bs s) i) (refused_line f) p.result (piece-refused (bs s) i n ∙ ap refused_line (fault s))
-          p.ensures (omega (arith, refused-length f (omega arith))),
-    )
+    let p = c.put_refused in
+    let n : input_fault (bs s) ≡ 0 → ⊥ = λ z. c.if-accepted-ne0.true (sym (fault s) ∙ z) in
+    record {
+      out = s.requires.2 ∙ output-refused (bs s) i n ∙ sym (output-refused (bs s) (i + 1) n);
+      text =
+          wrote-line s.args.text.now _ (report_piece (bs s) i) (refused_line f) p.result (piece-refused (bs s) i n ∙ ap refused_line (fault s))
+          p.ensures (omega (arith, refused-length f (omega arith)));
+    }
 
 pub put_place-requires : goal.put_place-requires
 put_place-requires c =
-    let s = (goal.at.put_place-requires c).After-shared_slice_known-1 in
+    let s = (goal.at.put_place-requires c).Start in
     let a = s.args.accepted in
     let z = c.if-accepted-ne0.false in
     let h = input-heading (bs s) a s.requires.0 z in (
@@ -52,11 +54,12 @@ put_place-requires c =
 pub returns : goal.returns
 returns c =
     let p = (goal.at.returns c).After-put_place in
-    let s = (goal.at.After-put_place p).After-shared_slice_known-1 in
+    let s = (goal.at.After-put_place p).Start in
     let i = s.args.i in
     let z = fault s ∙ p.if-accepted-ne0.false in
     let e = sym (piece-accepted (bs s) i z) in
-    let r = p.put_place.ensures in (
-      r.0 ∙ sym (output-next (bs s) (i + 1) z),
-      (r.1.0 ∙ ap (λ (t : List ℕ). written 0 t s.args.text.now) e, r.1.1 ∙ ap length e, r.1.2),
-    )
+    let r = p.put_place.ensures in
+    record {
+      out = r.out ∙ sym (output-next (bs s) (i + 1) z);
+      text = (r.text.0 ∙ ap (λ (t : List ℕ). written 0 t s.args.text.now) e, r.text.1 ∙ ap length e, r.text.2);
+    }

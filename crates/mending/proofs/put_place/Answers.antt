@@ -25,23 +25,27 @@ returns-then-opened-ne0 c =
     let a = (goal.at.returns-then-opened-ne0 c).After-mend_place-opened in
     let o = a.mend_place-opened in
     let p = c.put_kept in
-    let t = o.result.fault in (
-      o.ensures.1.1,
-      wrote-line a.args.text.now _ (changes_at (bs a) (place a)) (kept_line (number a) t) p.result
-          (changes-kept (bs a) (place a) (number a) t a.job_number-number.ensures o.ensures.0
+    let t = o.result.fault in
+    record {
+      out = o.ensures.out;
+      text =
+          wrote-line a.args.text.now _ (changes_at (bs a) (place a)) (kept_line (number a) t) p.result
+          (changes-kept (bs a) (place a) (number a) t a.job_number-number.ensures o.ensures.fault
           c.if-opened-ne0.true)
-          p.ensures (kept-length (number a) t (omega arith) (omega arith)),
-    )
+          p.ensures (kept-length (number a) t (omega arith) (omega arith));
+    }
 
 pub returns : goal.returns
 returns c =
     let a = (goal.at.returns c).After-mend_place-opened in
     let o = a.mend_place-opened in
     let p = c.put_changes in
-    let w = o.result.wrong in (
-      o.ensures.1.1,
-      wrote-line a.args.text.now _ (changes_at (bs a) (place a)) (changed_lines (number a) (holders w)) p.result
-          (changes-opened (bs a) (place a) (number a) o.result.fault a.job_number-number.ensures o.ensures.0 a.args.h w
-          a.requires.1 o.ensures.1.0 c.if-opened-ne0.false)
-          p.ensures (changes-length (number a) w (omega arith)),
-    )
+    let w = o.result.wrong in
+    record {
+      out = o.ensures.out;
+      text =
+          wrote-line a.args.text.now _ (changes_at (bs a) (place a)) (changed_lines (number a) (holders w)) p.result
+          (changes-opened (bs a) (place a) (number a) o.result.fault a.job_number-number.ensures o.ensures.fault a.args.h w
+          a.requires.1 o.ensures.wrong c.if-opened-ne0.false)
+          p.ensures (changes-length (number a) w (omega arith));
+    }
