@@ -5,11 +5,19 @@
 // reading fails nothing is printed. What `streams` assumes of reading and writing is assumed here.
 #![tactic(auto)]
 
+ghost use Rattle.std.specs.Prelude.{OnOk};
+ghost use Rattle.std.specs.Io.KnownBytes.{Appends};
+ghost use Rattle.exporting.specs.Export.{export_of};
+ghost use Rattle.streams.specs.Moved.{AppendsStart};
+
 use std::io;
 use std::io::Write;
 
 // Prints the text of an input, a piece at a time.
-fn print<W: Write>(to: &mut W, bytes: &[u8]) -> io::Result<()> {
+fn print<W: Write>(to: &mut W, bytes: &[u8]) -> io::Result<()>
+    ensures start { AppendsStart (W.contents to.old) (W.contents to.new) (export_of bytes.now) }
+    ensures all { OnOk result (Appends (W.contents to.old) (W.contents to.new) (export_of bytes.now)) }
+{
     let mut text = [0u8; text::REPORT];
     let accepted = exporting::accept(bytes);
     let pieces = listing::count_pieces(accepted);

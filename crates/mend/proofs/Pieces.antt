@@ -1,14 +1,37 @@
--- How many pieces the report of an input has, by what accepting it gave. Assumes nothing.
-use mathlib.Core.Path.{◌≡◌}
-use mathlib.Core.List.{List}
-use Prim.Native.Nat.{ℕ}
+-- How many pieces the report of an input has, by what accepting it gave. And what stands on the output before each piece of the report: the pieces before it; at the end all of them, which are the report. Assumes nothing.
+use Rattle.std.proofs.Common.{◌≡◌, ℕ, ◌+◌, ◌<◌, List, Option, refl, ap, ◌∙◌, subst, le_of_lt}
+use Rattle.std.specs.Io.KnownBytes.{Appends}
+use Rattle.streams.specs.Moved.{AppendsStart}
+use Rattle.streams.proofs.Pieces.{printed-none, printed-next, printed-start}
+use Rattle.mending.specs.Report.{report_of, report_piece, report_pieces, pieces_from}
+use Rattle.mending.proofs.Report.{report-whole, report-begin}
 use Rattle.words.specs.Refusal.{kept}
 use Rattle.bundle.specs.declared.Accepted.{Accepted}
 use Rattle.listing.specs.Listing.{input_fault}
 use Rattle.listing.specs.Pieces.{accepted_input}
 use Rattle.listing.proofs.Input.{count_by}
-use Rattle.mending.specs.Report.{report_pieces}
 
 pub pieces-count : (bs : List ℕ) (a : Accepted) → a ≡ accepted_input bs → kept a.fault 1 a.heading.jobs ≡ report_pieces bs
 unfolding accepted_input report_pieces
 pieces-count bs a e = rw e (count_by bs (input_fault bs))
+
+pub reported-none : (bs : List ℕ) (a : Option (List ℕ)) → Appends a a (pieces_from bs 0 0)
+unfolding pieces_from
+reported-none bs a = printed-none (pieces_from bs) (report_piece bs) (λ j. refl) (λ j n. refl) a 0 refl
+
+module _ (bs : List ℕ) (a b c : Option (List ℕ)) (i : ℕ) (given : Appends a b (pieces_from bs 0 i)) where
+  -- a piece that was written
+  pub reported-next : Appends b c (report_piece bs i) → Appends a c (pieces_from bs 0 (i + 1))
+  unfolding pieces_from
+  reported-next p = printed-next (pieces_from bs) (report_piece bs) (λ j. refl) (λ j m. refl) a b c i given (i + 1) refl p
+
+  -- one of which only a beginning may have been
+  pub reported-start : i < report_pieces bs → AppendsStart b c (report_piece bs i) → AppendsStart a c (report_of bs)
+  unfolding pieces_from
+  reported-start h p =
+      printed-start (pieces_from bs) (report_piece bs) (λ j. refl) (λ j m. refl) a b c i given (report_pieces bs) (report_of bs) h
+      (report-begin bs i (le_of_lt h)) p
+
+-- the last was
+pub reported-all : (bs : List ℕ) (a b : Option (List ℕ)) (i : ℕ) → Appends a b (pieces_from bs 0 i) → i ≡ report_pieces bs → Appends a b (report_of bs)
+reported-all bs a b i given e = subst (Appends a b) (ap (pieces_from bs 0) e ∙ report-whole bs) given

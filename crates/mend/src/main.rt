@@ -7,10 +7,12 @@
 #![tactic(auto)]
 
 ghost use Rattle.std.specs.Prelude.{◌≡◌, OnOk, length};
+ghost use Rattle.std.specs.Io.KnownBytes.{Appends};
 ghost use Rattle.listing.specs.Pieces.{accepted_input};
 ghost use Rattle.mending.specs.Mended.{mended};
 ghost use Rattle.mending.specs.Progress.{output_at};
-ghost use Rattle.mending.specs.Report.{report_pieces};
+ghost use Rattle.mending.specs.Report.{report_of, report_pieces};
+ghost use Rattle.streams.specs.Moved.{AppendsStart};
 
 use bundle::Accepted;
 use std::env::{Env, FillError};
@@ -27,7 +29,9 @@ const TOO_LONG: i32 = 36;
 // Prints the report of an input, a piece at a time, mends it in the output on the way, and says whether writing went well.
 fn print<W: Write>(to: &mut W, bytes: &[u8], accepted: Accepted, out: &mut [u8]) -> io::Result<()>
     requires { (accepted ≡ accepted_input bytes.now) × (out.old ≡ output_at bytes.now 0) }
-    ensures { OnOk result (out.new ≡ output_at bytes.now (report_pieces bytes.now)) }
+    ensures mended { OnOk result (out.new ≡ output_at bytes.now (report_pieces bytes.now)) }
+    ensures start { AppendsStart (W.contents to.old) (W.contents to.new) (report_of bytes.now) }
+    ensures all { OnOk result (Appends (W.contents to.old) (W.contents to.new) (report_of bytes.now)) }
 {
     let mut text = [0u8; text::REPORT];
     let pieces = listing::count_pieces(accepted);
@@ -95,13 +99,16 @@ fn mend(rt: &HostRuntime, bytes: &[u8], out: &mut [u8])
     requires { length out.old ≡ length bytes.now }
 {
     let accepted = mending::start(bytes, out);
-    if let Err(error) = print(&mut rt.stdout(), bytes, accepted, out) {
-        let _ = eprintln!(rt; "mend: standard output: {error}");
-        return;
-    }
-    if accepted.fault == 0 {
-        if has_argument(rt, 1) {
-            save(rt, bytes, out);
+    match print(&mut rt.stdout(), bytes, accepted, out) {
+        Ok(()) => {
+            if accepted.fault == 0 {
+                if has_argument(rt, 1) {
+                    save(rt, bytes, out);
+                }
+            }
+        }
+        Err(error) => {
+            let _ = eprintln!(rt; "mend: standard output: {error}");
         }
     }
 }

@@ -7,7 +7,7 @@ use Rattle.open.proofs.print.Given as goal
 abbrev pub invariant-loop-line : goal.invariant-loop-line
 invariant-loop-line g l = record {
   own : l.printer ≡ printer_at l.bytes l.printer.next;
-  given : Appends (g.W.Write.contents l.initial.to) (g.W.Write.contents l.to) (pieces_from l.bytes 0 l.printer.next)
+  given : Appends (g.W.Write.contents l.initial.to) (g.W.Write.contents l.to) (pieces_from l.bytes 0 l.printer.next);
 }
 
 abbrev pub decreases-loop-line : goal.decreases-loop-line
