@@ -1,4 +1,5 @@
--- How many pieces the report of an input has, by what accepting it gave. And what stands on the output before each piece of the report: the pieces before it; at the end all of them, which are the report. Assumes nothing.
+-- How many pieces the report of an input has, by what accepting it gave. And what stands on the output before each piece of it: the pieces before
+-- that one; at the end all of them, which are the report. Assumes nothing.
 use Rattle.std.proofs.Common.{◌≡◌, ℕ, ◌+◌, ◌<◌, List, Option, refl, ap, ◌∙◌, subst, le_of_lt}
 use Rattle.std.specs.Io.KnownBytes.{Appends}
 use Rattle.streams.specs.Moved.{AppendsStart}
