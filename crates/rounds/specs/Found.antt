@@ -8,7 +8,7 @@ use Rattle.codewords.specs.Opening.{fault_of, from_codeword}
 use Rattle.codewords.specs.Residue.{left, at_bit}
 use Rattle.level.specs.Level.{level_of}
 use Rattle.level.specs.declared.Level.{Level}
-use Rattle.level.specs.declared.Level.TheVariants.{Codeword, Nothing as None}
+use Rattle.level.specs.declared.Level.TheVariants.{Codeword, Nothing as NoCodeword}
 use Rattle.rounds.specs.Residues.{bits_of_all}
 use Rattle.rounds.specs.declared.Found.{Found}
 use Rattle.rounds.specs.declared.Found.TheVariants.{Wrong, Nothing}
@@ -20,7 +20,7 @@ lowest_bit k d p ss = count_trailing_zeros 64 (bits_of_all (map (left k d p) ss)
 -- the holders that the field decoder names, which need not be all that differ from p; or "a level has no answer"
 abbrev pub named : Level → Found
 named (Codeword w) = Wrong w false
-named None = Nothing
+named NoCodeword = Nothing
 
 -- the field decoder's answer, of shares of one bit
 abbrev pub field_found : ℕ → ℕ → ℕ → List Share → Found
