@@ -128,7 +128,7 @@ def try_edit(rt, crate, edit, version):
     texts, why = rt.read_edit(edit, crate.folder)
     if why:
         raise ValueError('it cannot be applied: ' + why)
-    head, functions = version, {function for _, function in answers(edit) if function}
+    own, head, functions = set(texts), version, {function for _, function in answers(edit) if function}
     for attempt in range(4):
         with tempfile.TemporaryDirectory(prefix='edits-') as room:
             rt.linked(os.path.join(crate.folder, 'out/incremental'), os.path.join(room, 'kept'))
@@ -139,6 +139,9 @@ def try_edit(rt, crate, edit, version):
         log = ran.stdout
         if ran.returncode != 1 or not log.rstrip('\n').split('\n')[-1].startswith('logic=not-proved'):
             raise ValueError('it is not refused' if ran.returncode == 0 else 'no verdict, status %d: %s' % (ran.returncode, log[:300]))
+        unread = [line for line in log.split('\n') if rt.unread(line, own)]
+        if unread:
+            raise ValueError('the prover cannot read it: ' + unread[0][:300])
         changed = False
         for function in sorted(functions) if attempt < 3 else ():
             if not is_by_name(log, function):
