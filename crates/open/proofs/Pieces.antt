@@ -1,5 +1,5 @@
 -- What stands on the output before each piece of a listing: the pieces before it; at the end all of them, which are the listing. Assumes nothing.
-use Rattle.std.proofs.Common.{◌≡◌, ℕ, ◌+◌, ◌-◌, ◌≤◌, ◌<◌, List, Option, min, refl, ap, subst, arith}
+use Rattle.std.proofs.Common.{◌≡◌, ℕ, ◌+◌, ◌≤◌, ◌<◌, List, Option, min, refl, ap, subst, arith}
 use Rattle.std.specs.Io.KnownBytes.{Appends}
 use Rattle.streams.specs.Moved.{AppendsStart}
 use Rattle.streams.proofs.Pieces.{printed-none, printed-next, printed-start}

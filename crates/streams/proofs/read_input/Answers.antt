@@ -1,4 +1,4 @@
-use Rattle.std.proofs.Common.{rules, length, ◌-◌}
+use Rattle.std.proofs.Common.{rules}
 use Rattle.streams.proofs.Moved.{read-more}
 use Rattle.streams.proofs.read_input.Goals as goal
 
