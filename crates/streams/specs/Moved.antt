@@ -1,4 +1,4 @@
--- What was read and what was written. Assumes nothing.
+-- Internal: what was read and what was written. Assumes nothing.
 use Rattle.std.specs.Prelude.{◌≡◌, ℕ, ◌≤◌, Option, List, ◌++◌, length, take}
 use Rattle.std.specs.Io.KnownBytes.{Appends}
 
