@@ -30,7 +30,7 @@ HEAD = re.compile(r'# (\w+)(?:, in ([\w:]+))?: \S')
 VERDICT = re.compile(r'^fn \w+::(\S+): (.*)$', re.M)
 ERROR = re.compile(r'^(?:\./)?(proofs/\S+?\.antt):\d+:\d+: error: (.*(?:\n  .*)*)', re.M)
 # what an error says of a name that the edit took away, and of a lemma that was not looked at for one that fell
-GONE = re.compile(r'has no field|is not in scope|has no `')
+GONE = re.compile(r'has no field|is not in scope|has no `|is already declared')
 WAITS = re.compile(r'\d+ declarations? that depends? on')
 FALSE = 'allow values at which this goal is false'
 EXPORTED = re.compile(r'#\[unsafe\(no_mangle\)\]\s+pub extern "C" fn (\w+)')
