@@ -15,7 +15,7 @@ HEADER = 'include/yikescanvas.h'
 INDEX = 'docs/THEOREMS.md'
 DOCUMENTS = ['README.md', 'docs/THEOREMS.md', 'docs/REFERENCE.md', 'docs/SECRECY.md', 'docs/CONTRIBUTING.md', 'docs/DECISIONS.md', 'docs/PERFORMANCE.md']
 # Words in backquotes that are neither declared here nor callers' names: the language's, its library's, and those of the C library.
-OUTSIDE = {'requires', 'std::io', 'std::fs', 'std::env', 'std::thread', 'memcpy', 'memset'}
+OUTSIDE = {'requires', 'std::io', 'std::fs', 'std::env', 'std::thread', 'os', 'memcpy', 'memset', 'strerror_r', 'close', 'fsync', 'unlink'}
 CALLERS = [HEADER, 'rust/yikescanvas/src/lib.rs', 'crates/boundary/src/lib.rt', 'crates.txt']
 LINKED = re.compile(r'\[(`[^`]+`)\]\([^)]*\)')
 
