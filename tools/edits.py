@@ -77,7 +77,7 @@ def log_of(crate, edit):
 def is_new(crate, edit, version):
     """Whether the log of an edit is newer than all that it was made from, and of this kit."""
     log = log_of(crate, edit)
-    made_from = [edit] + [p for it in [crate, *crate.below()] for part in ('src', 'specs', 'proofs')
+    made_from = [edit, os.path.abspath(__file__)] + [p for it in [crate, *crate.below()] for part in ('src', 'specs', 'proofs')
                           for p in glob.glob(os.path.join(it.folder, part, '**/*.*'), recursive=True)]
     return os.path.exists(log) and os.path.getmtime(log) > max(map(os.path.getmtime, made_from)) and read(log).startswith(version + '\n')
 

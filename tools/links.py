@@ -80,7 +80,7 @@ def target(name, contract, files):
     for path in files:
         if os.path.basename(path) == name + '.antt' or name.endswith('*') and any(n.startswith(name[:-1]) for n in declared(path)):
             return (path, None), None
-    everywhere = [p for p in sources() if name in declared(p) and not p.endswith('Proof.antt')]
+    everywhere = [p for p in sources() if name in declared(p) and not re.search(r'/proofs/.+/[^/]+\.antt$', p)]
     if len(everywhere) == 1:
         return (everywhere[0], declared(everywhere[0])[name]), None
     if everywhere:

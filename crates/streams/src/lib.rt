@@ -1,6 +1,7 @@
 // What the programs read and write: standard input whole, and a text whole, tried again where a call was interrupted or not ready.
 //
-// That `read` and `write` move the bytes that they say they move is assumed: no contract can speak of it.
+// The clauses tell which bytes move where those of a reader or a writer are known. Of standard input and output and of files none are: that the
+// system moves the bytes that std says it moves is assumed.
 #![tactic(auto)]
 
 ghost use Rattle.std.specs.Prelude.{◌<◌, length, take, OnOk};
