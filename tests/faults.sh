@@ -148,6 +148,11 @@ saving "e28" "e5" empty whole empty
 # a limit of 1 KiB a file: the system itself fails half way
 (ulimit -f 1 && trap '' XFSZ && run <"$cases/labs.in" >"$work/out" 2>"$work/err")
 judge "a limit of the new file" undone labs
+# a name that is not UTF-8 makes no file
+odd=$work/$(printf 'n\377')
+"$program" "$odd" <"$cases/sample.in" >"$work/out" 2>"$work/err"
+judge "a name that is not UTF-8" undone sample
+judge "no file of a name that is not UTF-8" [ ! -e "$odd" ]
 
 name=faults
 verdict
