@@ -11,7 +11,7 @@ use Rattle.words.specs.Faults.{length_fault}
 use Rattle.words.specs.Refusal.{unless, PARAMETERS, LENGTH, HOLDER, MALFORMED, MISMATCHED}
 use Rattle.words.proofs.InRange.{range-ok}
 use Rattle.words.proofs.Faults.{length-clear, clear-length}
-use Rattle.words.proofs.Refusal.{first-left, first-right, first-none, first_holds, unless_holds, first_of-holds}
+use Rattle.words.proofs.Refusals.{first-left, first-right, first-none, first_holds, unless_holds, first_of-holds}
 use Rattle.galois.specs.Element.{Element}
 use Rattle.codewords.specs.Opening.{lowest_room}
 use Rattle.codewords.proofs.Tells.{other, Ahead}

@@ -4,7 +4,7 @@ use mathlib.Core.Path.{◌≡◌, sym, ap, ◌∙◌}
 use mathlib.Core.List.{List}
 use Prim.Native.Nat.{ℕ}
 use Rattle.words.specs.Refusal.{first}
-use Rattle.words.proofs.Refusal.{first-left, first-right, first-none, first_some}
+use Rattle.words.proofs.Refusals.{first-left, first-right, first-none, first_some}
 use Rattle.codewords.specs.Opening.{Opening, declines, lowest_room, unless_fault}
 use Rattle.codewords.proofs.Opening.{unless-none, unless-some}
 use Rattle.records.specs.declared.Heading.{Heading}

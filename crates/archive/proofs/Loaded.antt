@@ -11,7 +11,7 @@ use Rattle.words.specs.Params.{params_ok}
 use Rattle.words.specs.Refusal.{WIDE_WORD}
 use Rattle.words.specs.Word.{all_in_width}
 use Rattle.words.proofs.InRange.{range-ok}
-use Rattle.words.proofs.Refusal.{unless-yes, unless-no}
+use Rattle.words.proofs.Refusals.{unless-yes, unless-no}
 use Rattle.galois.specs.Element.{Element, held}
 use Rattle.galois.proofs.Held.{held-take}
 use Rattle.polynomial.specs.Rows.{Rows}

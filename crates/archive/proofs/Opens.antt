@@ -10,7 +10,7 @@ use Prim.Native.Nat.{ℕ, zero, suc, ◌-◌, ◌≤◌}
 use native.Mathlib.Omega.{arith}
 use lib.ListN.{length}
 use Rattle.words.specs.Refusal.{first, unless, WIDE_WORD, OUT_OF_RANGE}
-use Rattle.words.proofs.Refusal.{first-left, first-right, first-none, first_three, first_holds, unless-held, unless-yes, unless_holds}
+use Rattle.words.proofs.Refusals.{first-left, first-right, first-none, first_three, first_holds, unless-held, unless-yes, unless_holds}
 use Rattle.codewords.specs.Codeword.{Polynomial}
 use Rattle.codewords.specs.Demand.{Decides, Outputs, Returned}
 use Rattle.codewords.specs.Opening.{Opening, declines, opens, fault_of, lowest_room, unless_fault, answer_to, JobState}

@@ -5,7 +5,7 @@ use Prim.Native.Nat.{ℕ, ◌+◌}
 use lib.ListN.{length, take, drop}
 use Rattle.words.specs.declared.Params.{Params}
 use Rattle.words.specs.Refusal.{first, kept}
-use Rattle.words.proofs.Refusal.{first-left, first-right, first-twice, first-same, kept-none, kept-some}
+use Rattle.words.proofs.Refusals.{first-left, first-right, first-twice, first-same, kept-none, kept-some}
 use Rattle.words.proofs.Faults.{params-clear, length-clear}
 use Rattle.words.proofs.InRange.{InRange}
 use Rattle.words.specs.Faults.{params_fault, length_fault, width_fault}

@@ -10,7 +10,7 @@ use lib.ListN.{length}
 use lib.Dec.{ltb, lit<}
 use borrow.Author.Tests.{lt-ltb, ltb-true}
 use Rattle.words.specs.Refusal.{unless, first_of}
-use Rattle.words.proofs.Refusal.{first-left, first-right, unless-held, first_of-each, kept-none}
+use Rattle.words.proofs.Refusals.{first-left, first-right, unless-held, first_of-each, kept-none}
 use Rattle.records.specs.Layout.{record_size, head_size, job_len, job_size, file_size, order_kind, order_len, order_size}
 use Rattle.records.specs.Record.{framed, heading_of}
 use Rattle.bundle.specs.Bundle.{num_of, prev_num, job_fault, file_fault_at, place_at, prev_holder, files_in, fault_of_file, files_fault, bundle_fault}

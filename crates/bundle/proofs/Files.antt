@@ -11,8 +11,8 @@ use lib.ListN.{length}
 use lib.Dec.{ltb, eqb, lit<}
 use borrow.Author.Tests.{lt-ltb, le-ltb, eq-eqb, ne_eqb}
 use Rattle.words.specs.Refusal.{unless, first_of}
-use Rattle.words.proofs.Refusal.{pass, stop, unless-yes, unless-no, first-none, first_some, first-left, first-right}
-use Rattle.words.proofs.Refusal.{first_of-more, first_of-stop, first_of-each, first_of-zero}
+use Rattle.words.proofs.Refusals.{pass, stop, unless-yes, unless-no, first-none, first_some, first-left, first-right}
+use Rattle.words.proofs.Refusals.{first_of-more, first_of-stop, first_of-each, first_of-zero}
 use Rattle.records.specs.Layout.{record_size, head_kind, head_len, head_size, job_len, file_size, order_kind, order_len, order_size}
 use Rattle.records.specs.Record.{framed, heading_of}
 use Rattle.bundle.specs.Bundle.{num_of, heading_fault, job_fault_at, prev_num, job_fault, file_fault_at, file_fault, place_at, prev_holder, files_in}

@@ -9,7 +9,7 @@ use Rattle.words.specs.Refusal.{first, unless}
 use Rattle.words.specs.Params.{params_ok}
 use Rattle.words.specs.declared.Params.{Params}
 use Rattle.words.proofs.Tests.{and_left, and_right, and_both, and_yes, and_no}
-use Rattle.words.proofs.Refusal.{pass, stop, first-left, first-right, unless-held, unless-yes}
+use Rattle.words.proofs.Refusals.{pass, stop, first-left, first-right, unless-held, unless-yes}
 use Rattle.words.proofs.InRange.{InRange, ok-range}
 use Rattle.records.specs.Layout.{record_size, head_kind, head_len, head_size, word_size, job_kind, job_len_of, job_len, file_size}
 use Rattle.records.specs.Record.{framed, Frame, heading_of}

@@ -10,7 +10,7 @@ use lib.ListN.{length, get_or}
 use borrow.Author.Tests.{eqb-true, leb-true}
 use Rattle.words.specs.Refusal.{kept}
 use Rattle.words.specs.Faults.{length_fault}
-use Rattle.words.proofs.Refusal.{first-none, first_some, first-right, unless-held}
+use Rattle.words.proofs.Refusals.{first-none, first_some, first-right, unless-held}
 use Rattle.words.proofs.Tests.{bool_cases, and_left, and_right}
 use Rattle.records.specs.Layout.{record_size, body_size, known}
 use Rattle.records.specs.Record.{len_at, kind_at, whole, read_at, read_fault, cursor_fault, read_next}

@@ -8,7 +8,7 @@ use borrow.Author.Tests.{ltb-true}
 use Rattle.words.specs.Refusal.{first, kept}
 use Rattle.words.specs.Faults.{length_fault}
 use Rattle.words.proofs.Faults.{length-clear}
-use Rattle.words.proofs.Refusal.{first-none, first_some, first-left, first-right, unless-held, kept-none}
+use Rattle.words.proofs.Refusals.{first-none, first_some, first-left, first-right, unless-held, kept-none}
 use Rattle.records.specs.Layout.{file_size}
 use Rattle.records.specs.declared.Heading.{Heading}
 use Rattle.bundle.specs.Bundle.{bundle_fault, bundle_heading, files_of, file_at, holder_of, allowance_of, accepted}

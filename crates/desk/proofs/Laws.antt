@@ -11,7 +11,7 @@ use borrow.Author.Tests.{lt-ltb, le-ltb, le-leb, lt-leb, ne_eqb, leb-true, ltb-t
 use Rattle.words.specs.Faults.{length_fault}
 use Rattle.words.specs.Refusal.{first, kept, PARAMETERS, LENGTH, DESK_CLOSED}
 use Rattle.words.proofs.Faults.{clear-length}
-use Rattle.words.proofs.Refusal.{first-right, first-none, first_some, kept-none, kept-some, unless-held, unless-yes, unless-no, stop}
+use Rattle.words.proofs.Refusals.{first-right, first-none, first_some, kept-none, kept-some, unless-held, unless-yes, unless-no, stop}
 use Rattle.codewords.specs.Opening.{Opening, declines, opens, fault_of, unless_fault, JobState}
 use Rattle.codewords.proofs.Opening.{unless-none, unless-some}
 use Rattle.bundle.specs.Bundle.{bundle_heading}

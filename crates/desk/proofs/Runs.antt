@@ -7,7 +7,7 @@ use native.Mathlib.Omega.{arith}
 use lib.ListN.{length}
 use Rattle.words.specs.Faults.{length_fault}
 use Rattle.words.specs.Refusal.{kept}
-use Rattle.words.proofs.Refusal.{first-right, kept-none}
+use Rattle.words.proofs.Refusals.{first-right, kept-none}
 use Rattle.codewords.specs.Opening.{fault_of}
 use Rattle.desk.specs.Desk.{largest_allowance}
 use Rattle.desk.specs.Lent.{lent_opening, lent_start_fault}

@@ -11,7 +11,7 @@ use lib.ListN.{length, get_or}
 use Rattle.words.specs.Faults.{length_fault}
 use Rattle.words.specs.Refusal.{first, LENGTH, OUT_OF_RANGE, DESK_CLOSED}
 use Rattle.words.proofs.Faults.{clear-length, length-clear}
-use Rattle.words.proofs.Refusal.{first-left, first-right, first-none, first_holds, unless_holds, kept-none, kept-some}
+use Rattle.words.proofs.Refusals.{first-left, first-right, first-none, first_holds, unless_holds, kept-none, kept-some}
 use Rattle.codewords.specs.Demand.{Outputs, Returned}
 use Rattle.codewords.specs.Opening.{fault_of, unless_fault, JobState}
 use Rattle.codewords.proofs.Tells.{other, Ahead, tells}

@@ -5,7 +5,7 @@ use Prim.Native.Nat.{ℕ}
 use borrow.Author.Tests.{eqb-true, eq-eqb, ne_eqb}
 use lib.Dec.{eqb, lit<}
 use Rattle.words.specs.Refusal.{unless, kept}
-use Rattle.words.proofs.Refusal.{first-left, first-right, first-none, first_some, unless-held, unless-yes, unless-no, kept-none}
+use Rattle.words.proofs.Refusals.{first-left, first-right, first-none, first_some, unless-held, unless-yes, unless-no, kept-none}
 use Rattle.records.specs.declared.Heading.{Heading}
 use Rattle.bundle.specs.Bundle.{bundle_fault, bundle_heading, files_of, no_heading, params_of}
 use Rattle.bundle.specs.declared.Accepted.{Accepted}

@@ -9,7 +9,7 @@ use borrow.Author.Tests.{eq-eqb, ne_eqb}
 use lib.Dec.{eqb}
 use lib.ListN.{length}
 use Rattle.words.specs.Refusal.{kept, unless}
-use Rattle.words.proofs.Refusal.{first-none, first_some, unless-yes, unless-no, kept-none}
+use Rattle.words.proofs.Refusals.{first-none, first_some, unless-yes, unless-no, kept-none}
 use Rattle.bundle.specs.Bundle.{bundle_fault, bundle_heading, params_of}
 use Rattle.text.specs.Text.{refused_line}
 use Rattle.text.proofs.Runs.{run-rest}

@@ -12,7 +12,7 @@ use borrow.Author.Tests.{le-leb, leb-true, lt-ltb, ltb-true, eqb-true, eq-eqb, n
 use Rattle.words.specs.Refusal.{first, unless, kept, HOLDER}
 use Rattle.words.specs.Faults.{length_fault}
 use Rattle.words.proofs.Tests.{bool_cases, and_left, and_right, and_both}
-use Rattle.words.proofs.Refusal.{first-none, first_some, first-left, first-right, unless-held, unless-yes, kept-none, kept-some}
+use Rattle.words.proofs.Refusals.{first-none, first_some, first-left, first-right, unless-held, unless-yes, kept-none, kept-some}
 use Rattle.records.specs.Num.{part}
 use Rattle.records.specs.Layout.{body_at, record_size, body_size, job_len, file_size, order_size}
 use Rattle.records.specs.declared.Heading.{Heading}

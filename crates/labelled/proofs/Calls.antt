@@ -8,7 +8,7 @@ use Rattle.words.specs.Faults.{params_fault, length_fault, width_fault}
 use Rattle.words.specs.Refusal.{first, unless}
 use Rattle.words.specs.Word.{all_in_width}
 use Rattle.words.proofs.Faults.{params-clear, length-clear, clear-length, width-clear}
-use Rattle.words.proofs.Refusal.{first-left, first-right, first-none, unless-held, unless-yes, unless-no, kept-none, kept-some}
+use Rattle.words.proofs.Refusals.{first-left, first-right, first-none, unless-held, unless-yes, unless-no, kept-none, kept-some}
 use Rattle.words.proofs.Tests.{not-held}
 use Rattle.labelled.specs.JobText.{text_of, IsJob, SomeText}
 use Rattle.labelled.specs.Reading.{scanned, is_text, words_of}

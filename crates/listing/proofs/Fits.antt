@@ -9,7 +9,7 @@ use native.Mathlib.Omega.{arith}
 use lib.Dec.{leb, ltb}
 use lib.ListN.{length, get_or}
 use Rattle.words.specs.Refusal.{unless, LENGTH}
-use Rattle.words.proofs.Refusal.{first_holds, unless_holds}
+use Rattle.words.proofs.Refusals.{first_holds, unless_holds}
 use Rattle.codewords.specs.Codeword.{error_set, positions}
 use Rattle.codewords.specs.Opening.{Opening, declines, opens, fault_of, JobState}
 use Rattle.codewords.proofs.Positions.{positions-bytes}

@@ -8,7 +8,7 @@ use borrow.Author.Tests.{le-ltb, lt-ltb}
 use lib.Dec.{leb}
 use lib.ListN.{length}
 use Rattle.words.specs.Refusal.{unless, kept, LENGTH}
-use Rattle.words.proofs.Refusal.{first-right, kept-none}
+use Rattle.words.proofs.Refusals.{first-right, kept-none}
 use Rattle.records.specs.declared.Heading.{Heading}
 use Rattle.bundle.specs.Bundle.{bundle_fault, bundle_heading, files_of, no_heading, accepted}
 use Rattle.bundle.specs.declared.Accepted.{Accepted}

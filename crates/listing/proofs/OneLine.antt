@@ -7,7 +7,7 @@ use borrow.Author.Tests.{leb-true}
 use Rattle.words.specs.Faults.{length_fault}
 use Rattle.words.specs.Refusal.{first, unless, LENGTH}
 use Rattle.words.proofs.Faults.{length-clear}
-use Rattle.words.proofs.Refusal.{first-left, first-right, first-none, first_some, unless-held}
+use Rattle.words.proofs.Refusals.{first-left, first-right, first-none, first_some, unless-held}
 use Rattle.records.specs.declared.Heading.{Heading}
 use Rattle.bundle.specs.Bundle.{bundle_fault, accepted}
 use Rattle.bundle.specs.declared.Accepted.{Accepted}

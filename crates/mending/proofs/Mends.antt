@@ -9,7 +9,7 @@ use mathlib.Core.Logic.{inl, inr}
 use lib.ListN.{length, get_or}
 use Rattle.words.specs.Word.{all_in_width}
 use Rattle.words.specs.declared.Params.{Params}
-use Rattle.words.proofs.Refusal.{first-left, kept-none, kept-some}
+use Rattle.words.proofs.Refusals.{first-left, kept-none, kept-some}
 use Rattle.words.proofs.Tests.{and_both}
 use Rattle.records.specs.Num.{Bytes}
 use Rattle.records.specs.Layout.{file_size}

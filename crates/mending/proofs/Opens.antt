@@ -9,7 +9,7 @@ use mathlib.Core.Bool.{false}
 use mathlib.Core.List.{List, [], ◌∷◌}
 use Rattle.words.specs.Refusal.{first}
 use Rattle.words.proofs.InRange.{range-ok}
-use Rattle.words.proofs.Refusal.{first-right}
+use Rattle.words.proofs.Refusals.{first-right}
 use Rattle.records.specs.Num.{Bytes}
 use Rattle.records.specs.declared.Heading.{Heading}
 use Rattle.algebra.specs.Shares.{All}

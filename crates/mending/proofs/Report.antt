@@ -8,7 +8,7 @@ use native.Mathlib.Omega.{arith}
 use mathlib.Core.List.{List, [], ◌++◌, append-nil}
 use lib.ListN.{length}
 use Rattle.words.specs.Refusal.{kept}
-use Rattle.words.proofs.Refusal.{kept-none, kept-some}
+use Rattle.words.proofs.Refusals.{kept-none, kept-some}
 use Rattle.records.specs.Num.{Bytes}
 use Rattle.codewords.specs.Opening.{fault_of}
 use Rattle.bundle.specs.Bundle.{num_of, job_at, bundle_fault, bundle_heading}

@@ -5,7 +5,7 @@ use Prim.Native.Nat.{ℕ, ◌<◌}
 use native.Mathlib.Omega.{arith}
 use mathlib.Core.List.{List}
 use lib.ListN.{length}
-use Rattle.words.proofs.Refusal.{first-none}
+use Rattle.words.proofs.Refusals.{first-none}
 use Rattle.records.specs.Num.{Bytes, part}
 use Rattle.records.specs.Layout.{body_at, body_size, job_len, word_size}
 use Rattle.bundle.specs.Bundle.{bundle_fault, bundle_heading, files_of, job_at}

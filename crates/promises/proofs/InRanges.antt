@@ -13,7 +13,7 @@ use Rattle.words.specs.Params.{params_ok}
 use Rattle.words.specs.Word.{all_in_width}
 use Rattle.words.proofs.Faults.{clear-length}
 use Rattle.words.proofs.InRange.{ok-range}
-use Rattle.words.proofs.Refusal.{first-none}
+use Rattle.words.proofs.Refusals.{first-none}
 use Rattle.words.proofs.Tests.{and_both}
 use Rattle.sharing.specs.Dealt.{Job}
 use Rattle.sharing.specs.Opening.{rising_to}

@@ -10,7 +10,7 @@ use Rattle.algebra.specs.Shares.{All}
 use Rattle.words.specs.Faults.{params_fault, length_fault}
 use Rattle.words.specs.Refusal.{first, unless, HOLDER, WIDE_WORD}
 use Rattle.words.proofs.Faults.{clear-params, clear-length}
-use Rattle.words.proofs.Refusal.{first-none, unless-yes}
+use Rattle.words.proofs.Refusals.{first-none, unless-yes}
 use Rattle.galois.specs.Element.{Element}
 use Rattle.codewords.specs.Codeword.{Share, Polynomial}
 use Rattle.codewords.specs.Opening.{Opening, secret_into, wrong_into, lowest_room, unless_fault, answer_to}

@@ -17,7 +17,7 @@ use Rattle.words.specs.Params.{params_ok}
 use Rattle.words.specs.Word.{all_in_width}
 use Rattle.words.specs.declared.Params.{Params}
 use Rattle.words.proofs.InRange.{InRange, ok-range, range-ok}
-use Rattle.words.proofs.Refusal.{first-left}
+use Rattle.words.proofs.Refusals.{first-left}
 use Rattle.words.proofs.Tests.{and_left, and_right, and_both}
 use Rattle.galois.specs.Element.{Element}
 use Rattle.sharing.specs.Opening.{rising_to}

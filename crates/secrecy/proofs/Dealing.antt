@@ -14,7 +14,7 @@ use Rattle.words.specs.Word.{all_in_width}
 use Rattle.words.specs.declared.Params.{Params}
 use Rattle.words.proofs.Faults.{clear-params, clear-length}
 use Rattle.words.proofs.InRange.{InRange, ok-range}
-use Rattle.words.proofs.Refusal.{first-none, unless-yes}
+use Rattle.words.proofs.Refusals.{first-none, unless-yes}
 use Rattle.words.proofs.Tests.{and_both}
 use Rattle.algebra.specs.Shares.{All}
 use Rattle.algebra.proofs.Shares.{all_map, all-map₂}

@@ -11,7 +11,7 @@ use Rattle.words.specs.Word.{all_in_width}
 use Rattle.words.specs.declared.Params.{Params}
 use Rattle.words.proofs.Faults.{params-clear, length-clear, width-clear}
 use Rattle.words.proofs.InRange.{InRange}
-use Rattle.words.proofs.Refusal.{first-left, first-right}
+use Rattle.words.proofs.Refusals.{first-left, first-right}
 use Rattle.sharing.specs.Dealing.{deal_fault}
 
 -- n and t are below 64, so that n and t times d are small

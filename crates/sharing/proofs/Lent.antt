@@ -15,7 +15,7 @@ use Rattle.words.specs.Word.{in_width, all_in_width}
 use Rattle.words.specs.declared.Params.{Params}
 use Rattle.words.proofs.Faults.{params-clear, clear-params, length-clear, clear-length}
 use Rattle.words.proofs.InRange.{ok-range, range-ok}
-use Rattle.words.proofs.Refusal.{first-left, first-right, first-none, unless-held, unless-yes}
+use Rattle.words.proofs.Refusals.{first-left, first-right, first-none, unless-held, unless-yes}
 use Rattle.words.proofs.Tests.{and_left, and_right, and_both, and_yes, and_no}
 use Rattle.algebra.specs.Shares.{All}
 use Rattle.algebra.proofs.Shares.{all_map}

@@ -12,7 +12,7 @@ use Rattle.words.specs.Params.{params_ok}
 use Rattle.words.specs.Refusal.{PARAMETERS, LENGTH, WIDE_WORD, HOLDER}
 use Rattle.words.specs.Word.{all_in_width}
 use Rattle.words.specs.declared.Params.{Params}
-use Rattle.words.proofs.Refusal.{first_holds, unless_holds}
+use Rattle.words.proofs.Refusals.{first_holds, unless_holds}
 use Rattle.codewords.specs.Demand.{Decides, Outputs}
 use Rattle.codewords.specs.Opening.{declines, fault_of, lowest_room, answer_to}
 use Rattle.codewords.proofs.Opening.{unless-none, unless-some, answer-states, narrow, never-wide}

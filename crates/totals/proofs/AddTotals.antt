@@ -13,8 +13,8 @@ use Rattle.words.specs.Faults.{width_fault}
 use Rattle.words.specs.Refusal.{first}
 use Rattle.words.specs.Signed.{sum_of}
 use Rattle.words.specs.Word.{add_w, all_in_width}
-use Rattle.words.proofs.Refusal.{first-left, first-right, first-none, first_some, first-same}
-use Rattle.words.proofs.Refusal.{unless-held, unless-yes, unless-no, unless_holds, kept-none, kept-some}
+use Rattle.words.proofs.Refusals.{first-left, first-right, first-none, first_some, first-same}
+use Rattle.words.proofs.Refusals.{unless-held, unless-yes, unless-no, unless_holds, kept-none, kept-some}
 use Rattle.galois.specs.Element.{sum, difference, zero_e}
 use Rattle.galois.proofs.Lists.{length-zip}
 use Rattle.records.specs.declared.Heading.{Heading}

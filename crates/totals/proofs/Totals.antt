@@ -16,8 +16,8 @@ use Rattle.words.specs.Refusal.{first, unless, HOLDER}
 use Rattle.words.specs.Faults.{length_fault}
 use Rattle.words.specs.Signed.{meaning, sum_of_meanings}
 use Rattle.words.specs.Word.{in_width, all_in_width}
-use Rattle.words.proofs.Refusal.{first-left, first-right, first-none, first_some, first-assoc, first_three}
-use Rattle.words.proofs.Refusal.{pass, unless-held, unless-yes, kept-none, kept-some}
+use Rattle.words.proofs.Refusals.{first-left, first-right, first-none, first_some, first-assoc, first_three}
+use Rattle.words.proofs.Refusals.{pass, unless-held, unless-yes, kept-none, kept-some}
 use Rattle.galois.specs.Element.{sum, zero_e}
 use Rattle.records.specs.declared.Heading.{Heading}
 use Rattle.bundle.specs.Bundle.{bundle_fault, bundle_heading, params_of, files_of, accepted}

@@ -4,7 +4,7 @@ use Rattle.words.specs.declared.Params.{Params}
 use Rattle.words.specs.Params.{params_ok}
 use Rattle.words.specs.Word.{all_in_width}
 use Rattle.words.specs.Faults.{params_fault, length_fault, width_fault}
-use Rattle.words.proofs.Refusal.{unless-held, unless-yes}
+use Rattle.words.proofs.Refusals.{unless-held, unless-yes}
 use Rattle.words.proofs.InRange.{InRange, ok-range, range-ok}
 
 pub params-clear : (p : Params) → params_fault p ≡ 0 → InRange p

@@ -1,7 +1,7 @@
 pub mod Fill
 pub mod Mod
 pub mod Tests
-pub mod Refusal
+pub mod Refusals
 pub mod InRange
 pub mod Width
 pub mod Reading

@@ -6,7 +6,7 @@ use Rattle.words.specs.Refusal.{unless}
 use Rattle.words.specs.Signed.{signed_of, twos_complement}
 use Rattle.words.specs.declared.Signed.{Signed}
 use Rattle.words.specs.Word.{in_width}
-use Rattle.words.proofs.Refusal.{first-left, first-right, unless-held}
+use Rattle.words.proofs.Refusals.{first-left, first-right, unless-held}
 use Rattle.words.proofs.Tests.{true-false, bool_cases, and_left, and_right}
 use Rattle.words.proofs.Width.{in-width-lt}
 
@@ -30,6 +30,10 @@ module _ (k w : ℕ) (s : Signed) (e : s ≡ signed_of k w) where
         let t : twos_complement s ≡ 2 ^ 64 - s.magnitude = rw n in
         omega (arith, some, t ∙ refl) ∙ ap twos_complement e
 
+pub bits-in-range : (k : ℕ) → bits_ok k ≡ true → (1 ≤ k) × (k ≤ 64)
+unfolding bits_ok
+bits-in-range k b = (leb-true 1 k (and_left (leb 1 k) (leb k 64) b), leb-true k 64 (and_right (leb 1 k) (leb k 64) b))
+
 -- an output of one word and a word of k bits
 pub record SignedClear (k w n : ℕ) : Type 0 where
   pub low : 1 ≤ k
@@ -40,11 +44,11 @@ pub record SignedClear (k w n : ℕ) : Type 0 where
 pub signed-clear : (k w n : ℕ) → signed_fault k w n ≡ 0 → SignedClear k w n
 unfolding signed_fault length_fault bits_ok
 signed-clear k w n e =
-    let b = unless-held (bits_ok k) 1 (lit< tt) (first-left (unless (bits_ok k) 1) _ e) in
+    let b = bits-in-range k (unless-held (bits_ok k) 1 (lit< tt) (first-left (unless (bits_ok k) 1) _ e)) in
     let r = first-right (unless (bits_ok k) 1) _ e in
     record {
-      low = leb-true 1 k (and_left (leb 1 k) (leb k 64) b);
-      high = leb-true k 64 (and_right (leb 1 k) (leb k 64) b);
+      low = b.0;
+      high = b.1;
       one = eqb-true n 1 (unless-held _ 2 (lit< tt) (first-left (length_fault 1 n) _ r));
       narrow = in-width-lt k w (unless-held (in_width k w) 3 (lit< tt) (first-right (length_fault 1 n) _ r));
     }

@@ -1,5 +1,8 @@
 -- The order of refusals, paper 01, "When a call declines": a fault is the paper's number, and 0 is none. Assumes nothing.
-use Rattle.std.specs.Prelude.{ℕ, zero, suc, Bool, cond}
+use Rattle.std.specs.Prelude.{ℕ, zero, suc, Bool, cond, Result}
+use Rattle.std.specs.declared.result.Result.TheVariants.{Ok, Err}
+use Rattle.words.specs.declared.Refusal.{Refusal}
+use Rattle.words.specs.declared.Refusal.TheVariants.{Parameters, Length, WideWord, Holder, TooFewShares, NoCodeword, Malformed, Mismatched, OutOfRange, DeskClosed, Text}
 
 -- the paper's table, by the names that the code's constants have: book, length, wide word, holder, too few, no curve, frame, strangers, place
 abbrev pub PARAMETERS : ℕ
@@ -36,6 +39,25 @@ DESK_CLOSED = 10
 -- K6: "11 text"
 abbrev pub TEXT : ℕ
 TEXT = 11
+
+-- the number of each refusal
+abbrev pub number_of : Refusal → ℕ
+number_of Parameters = PARAMETERS
+number_of Length = LENGTH
+number_of WideWord = WIDE_WORD
+number_of Holder = HOLDER
+number_of TooFewShares = TOO_FEW_SHARES
+number_of NoCodeword = NO_CODEWORD
+number_of Malformed = MALFORMED
+number_of Mismatched = MISMATCHED
+number_of OutOfRange = OUT_OF_RANGE
+number_of DeskClosed = DESK_CLOSED
+number_of Text = TEXT
+
+-- the number that an outcome stands for
+abbrev pub fault_in : {A : Type 0} → Result A Refusal → ℕ
+fault_in (Ok x) = 0
+fault_in (Err r) = number_of r
 
 -- the first of two faults
 unfoldable pub first : ℕ → ℕ → ℕ

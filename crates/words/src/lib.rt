@@ -1,35 +1,49 @@
-// Words of k bits, 1 to 64, held in a u64; the parameters of an archive; the numbers of refusals.
+// Words of k bits, 1 to 64, held in a u64; the parameters of an archive; refusals.
 #![tactic(auto)]
 
-ghost use Rattle.std.specs.Prelude.{◌≡◌, ◌+◌, ◌*◌, ◌%◌, ◌^◌, ◌<◌, ◌≤◌, [], ◌∷◌, length};
+ghost use Rattle.std.specs.Prelude.{◌≡◌, ◌+◌, ◌*◌, ◌%◌, ◌^◌, ◌<◌, ◌≤◌, [], ◌∷◌, length, true, OnOk};
 ghost use Rattle.words.specs.Word.{add_w, sub_w, mul_w, in_width, all_in_width};
 ghost use Rattle.words.specs.Params.{params_ok};
-ghost use Rattle.words.specs.Refusal.{first, unless, kept};
+ghost use Rattle.words.specs.Refusal.{number_of, fault_in, unless, kept};
 ghost use Rattle.words.specs.Faults.{params_fault, length_fault, width_fault, bits_ok, signed_fault};
 ghost use Rattle.words.specs.Signed.{signed_of, twos_complement};
 
-// Why a call declines, by the numbers of papers 01 and 02; 0 is no refusal.
-pub const PARAMETERS: u8 = 1;
+// Why a call declines.
+#[derive(Clone, Copy, Debug, PartialEq, Eq)]
+pub enum Refusal {
+    Parameters,
+    Length,
+    WideWord,
+    Holder,
+    TooFewShares,
+    NoCodeword,
+    Malformed,
+    Mismatched,
+    OutOfRange,
+    DeskClosed,
+    Text,
+}
 
-pub const LENGTH: u8 = 2;
-
-pub const WIDE_WORD: u8 = 3;
-
-pub const HOLDER: u8 = 4;
-
-pub const TOO_FEW_SHARES: u8 = 5;
-
-pub const NO_CODEWORD: u8 = 6;
-
-pub const MALFORMED: u8 = 7;
-
-pub const MISMATCHED: u8 = 8;
-
-pub const OUT_OF_RANGE: u8 = 9;
-
-pub const DESK_CLOSED: u8 = 10;
-
-pub const TEXT: u8 = 11;
+impl Refusal {
+    // Its number in C and in what the programs print.
+    pub fn number(self) -> u8
+        ensures { result ≡ number_of self }
+    {
+        match self {
+            Refusal::Parameters => 1,
+            Refusal::Length => 2,
+            Refusal::WideWord => 3,
+            Refusal::Holder => 4,
+            Refusal::TooFewShares => 5,
+            Refusal::NoCodeword => 6,
+            Refusal::Malformed => 7,
+            Refusal::Mismatched => 8,
+            Refusal::OutOfRange => 9,
+            Refusal::DeskClosed => 10,
+            Refusal::Text => 11,
+        }
+    }
+}
 
 // The parameters of an archive (paper 01: a book): bits of a word, words of an element, holders, degree.
 #[derive(Clone, Copy)]
@@ -143,10 +157,8 @@ pub fn all_in_width(k: u64, s: &[u64]) -> bool
     ensures { result ≡ all_in_width k s.now }
 {
     let mut seen: u64 = 0;
-    let mut i = 0;
-    while i < s.len() {
-        seen = seen | s[i];
-        i += 1;
+    for w in s {
+        seen |= *w;
     }
     in_width(k, seen)
 }
@@ -168,39 +180,49 @@ pub fn read_signed(k: u64, w: u64) -> Signed
     }
 }
 
-// ---- refusals: a chain of them is one expression, the first fault of tests that ask nothing of their arguments
+// ---- refusals: each test that a call makes gives its own, and `?` hands out the first
 
-// The first of two faults.
-pub fn first(a: u8, b: u8) -> u8
-    ensures { result ≡ first a b }
+// The number of a call that may decline: 0 where it does not.
+pub fn fault_number(outcome: Result<(), Refusal>) -> u8
+    ensures { result ≡ fault_in outcome }
 {
-    if a != 0 { a } else { b }
+    match outcome {
+        Ok(()) => 0,
+        Err(refusal) => refusal.number(),
+    }
 }
 
-// A fault unless a test holds.
-pub fn unless(holds: bool, fault: u8) -> u8
-    ensures { result ≡ unless holds fault }
+// A refusal unless a test holds.
+pub fn unless(holds: bool, refusal: Refusal) -> Result<(), Refusal>
+    ensures fault { fault_in result ≡ unless holds (number_of refusal) }
+    ensures ok { OnOk result (holds ≡ true) }
 {
-    if holds { 0 } else { fault }
+    if holds { Ok(()) } else { Err(refusal) }
 }
 
-pub fn params_fault(p: Params) -> u8
-    ensures { result ≡ params_fault p }
+#[tactic(auto, unfolding(crate::specs::Faults::params_fault))]
+pub fn check_params(p: Params) -> Result<(), Refusal>
+    ensures fault { fault_in result ≡ params_fault p }
+    ensures ok { OnOk result (params_ok p ≡ true) }
 {
-    unless(params_ok(p), PARAMETERS)
+    unless(params_ok(p), Refusal::Parameters)
 }
 
 // A lent list or output of n words, or bytes, where a call needs so many.
-pub fn length_fault(needed: usize, n: usize) -> u8
-    ensures { result ≡ length_fault needed n }
+#[tactic(auto, unfolding(crate::specs::Faults::length_fault))]
+pub fn check_length(needed: usize, n: usize) -> Result<(), Refusal>
+    ensures fault { fault_in result ≡ length_fault needed n }
+    ensures ok { OnOk result (n ≡ needed) }
 {
-    unless(n == needed, LENGTH)
+    unless(n == needed, Refusal::Length)
 }
 
-pub fn width_fault(k: u64, s: &[u64]) -> u8
-    ensures { result ≡ width_fault k s.now }
+#[tactic(auto, unfolding(crate::specs::Faults::width_fault))]
+pub fn check_width(k: u64, s: &[u64]) -> Result<(), Refusal>
+    ensures fault { fault_in result ≡ width_fault k s.now }
+    ensures ok { OnOk result (all_in_width k s.now ≡ true) }
 {
-    unless(all_in_width(k, s), WIDE_WORD)
+    unless(all_in_width(k, s), Refusal::WideWord)
 }
 
 // ---- the call that reads a word as a signed number
@@ -228,20 +250,14 @@ fn twos_complement(k: u64, w: u64) -> u64
 }
 
 // The signed reading of a word, in two's complement, into an output of one word.
-pub fn signed_into(k: u64, w: u64, out: &mut [u64]) -> u8
-    ensures { (result ≡ signed_fault k w (length out.old))
+#[tactic(auto, using(crate::proofs::Refusals::refusals), unfolding(crate::specs::Faults::signed_fault, crate::specs::Faults::bits_ok))]
+pub fn signed_into(k: u64, w: u64, out: &mut [u64]) -> Result<(), Refusal>
+    ensures { (fault_in result ≡ signed_fault k w (length out.old))
         × (out.new ≡ kept (signed_fault k w (length out.old)) out.old (twos_complement (signed_of k w) ∷ [])) }
 {
-    let fault = first(
-        unless(bits_ok(k), PARAMETERS),
-        first(
-            length_fault(1, out.len()),
-            unless(in_width(k, w), WIDE_WORD),
-        ),
-    );
-    if fault != 0 {
-        return fault;
-    }
+    unless(bits_ok(k), Refusal::Parameters)?;
+    check_length(1, out.len())?;
+    unless(in_width(k, w), Refusal::WideWord)?;
     out[0] = twos_complement(k, w);
-    0
+    Ok(())
 }

@@ -14,7 +14,7 @@ use Rattle.words.specs.Refusal.{first, unless}
 use Rattle.words.specs.Faults.{width_fault}
 use Rattle.words.specs.Word.{all_in_width}
 use Rattle.words.proofs.Tests.{and_left, and_right, and_both, and_yes, and_no}
-use Rattle.words.proofs.Refusal.{pass, stop, first-left, first-right, unless-held, unless-yes}
+use Rattle.words.proofs.Refusals.{pass, stop, first-left, first-right, unless-held, unless-yes}
 use Rattle.records.specs.Num.{le_bytes}
 use Rattle.records.specs.Layout.{head_kind, head_len, word_size, job_kind, job_len, job_size, file_size, order_kind, order_len}
 use Rattle.bundle.specs.Bundle.{ranges_ok, holder_ok}

@@ -8,7 +8,7 @@ use lib.ListN.{length, get_or, length-append}
 use lib.Dec.{lit<, eqb, ltb}
 use borrow.Author.Tests.{lt-ltb, eq-eqb}
 use Rattle.words.specs.Refusal.{first_of}
-use Rattle.words.proofs.Refusal.{first-none, unless-yes, first_of-zero}
+use Rattle.words.proofs.Refusals.{first-none, unless-yes, first_of-zero}
 use Rattle.records.specs.Num.{le_bytes}
 use Rattle.records.specs.Layout.{body_at, words_at, record_size, head_kind, head_len, head_size, word_size, job_kind, job_len, job_size, file_size}
 use Rattle.records.specs.Layout.{order_kind, order_len, order_size}

@@ -8,7 +8,7 @@ use lib.ListN.{length, get_or}
 use lib.Seq.{drop-cons}
 use lib.Dec.{lit<}
 use borrow.Author.Tests.{eqb-true}
-use Rattle.words.proofs.Refusal.{first-left, first-right, unless-held}
+use Rattle.words.proofs.Refusals.{first-left, first-right, unless-held}
 use Rattle.records.specs.Num.{Bytes, part, le_bytes}
 use Rattle.records.specs.Layout.{body_at, words_at, record_size, body_size, head_kind, head_len, head_size, word_size, job_kind, job_len_of, job_len, job_size}
 use Rattle.records.specs.Layout.{file_size, order_kind, order_len, order_size}

@@ -7,7 +7,7 @@ use mathlib.Core.Bool.{true, ◌||◌}
 use lib.ListN.{get_or}
 use lib.Dec.{ltb, eqb, eqb-suc-zero}
 use borrow.Author.Tests.{ltb-true}
-use Rattle.words.proofs.Refusal.{first-left}
+use Rattle.words.proofs.Refusals.{first-left}
 use Rattle.records.specs.Num.{Bytes}
 use Rattle.records.specs.Layout.{body_at, words_at, head_size, word_size, job_len, job_size}
 use Rattle.records.specs.Record.{heading_of}

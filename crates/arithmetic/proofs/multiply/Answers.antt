@@ -3,7 +3,7 @@ use native.Mathlib.Omega.{arith}
 use mathlib.Core.Path.{◌≡◌, sym, ◌∙◌}
 use Prim.Native.Nat.{ℕ}
 use lib.ListN.{length}
-use Rattle.words.proofs.Refusal.{kept-none}
+use Rattle.words.proofs.Refusals.{kept-none}
 use Rattle.arithmetic.specs.Calls.{operands_fault}
 use Rattle.arithmetic.proofs.Calls.{Clear, clear, declined}
 use Rattle.arithmetic.proofs.multiply.Goals as goal

@@ -4,7 +4,7 @@ use Prim.Native.Nat.{ℕ}
 use lib.ListN.{length}
 use Rattle.words.specs.Faults.{params_fault, length_fault, width_fault}
 use Rattle.words.specs.Refusal.{first}
-use Rattle.words.proofs.Refusal.{first-none, first_some, first-assoc, first_three}
+use Rattle.words.proofs.Refusals.{first-none, first_some, first-assoc, first_three}
 use Rattle.arithmetic.specs.Calls.{operands_fault}
 use Rattle.arithmetic.proofs.operands_fault.Goals as goal
 use Rattle.arithmetic.proofs.operands_fault.Goals.{After-first-fault, Start}

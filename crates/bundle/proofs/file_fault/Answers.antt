@@ -5,7 +5,7 @@ use mathlib.Core.List.{List}
 use lib.ListN.{length}
 use native.Mathlib.Omega.{arith}
 use Rattle.words.specs.Refusal.{first_of}
-use Rattle.words.proofs.Refusal.{first_some, first-none}
+use Rattle.words.proofs.Refusals.{first_some, first-none}
 use Rattle.records.specs.Layout.{head_size, job_len}
 use Rattle.records.specs.Record.{heading_of}
 use Rattle.bundle.specs.Bundle.{heading_fault, job_fault, file_fault_at}

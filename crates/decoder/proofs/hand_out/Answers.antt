@@ -6,7 +6,7 @@ use native.Mathlib.Omega.{arith}
 use native.Mathlib.Nat.{zero-add, le_of_eq, suc-ne-zero, suc_inj}
 use lib.ListN.{length, take, drop, get_or, set, drop_of_length-le}
 use Rattle.words.proofs.InRange.{ok-range}
-use Rattle.words.proofs.Refusal.{kept-none, kept-some}
+use Rattle.words.proofs.Refusals.{kept-none, kept-some}
 use Rattle.decoder.proofs.hand_out.Goals as goal
 use Rattle.decoder.proofs.hand_out.Goals.{After-lowest_bits, After-store}
 

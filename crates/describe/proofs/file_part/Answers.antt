@@ -6,7 +6,7 @@ use mathlib.Core.List.{List}
 use lib.ListN.{length}
 use Rattle.words.specs.Refusal.{first}
 use Rattle.words.specs.Faults.{length_fault}
-use Rattle.words.proofs.Refusal.{first-left}
+use Rattle.words.proofs.Refusals.{first-left}
 use Rattle.records.specs.declared.Heading.{Heading}
 use Rattle.bundle.specs.Bundle.{bundle_fault, bundle_heading, files_of}
 use Rattle.bundle.proofs.Bundles.{bundle-ok, file-place, accept-heading}

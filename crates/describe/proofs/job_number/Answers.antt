@@ -7,7 +7,7 @@ use lib.ListN.{length}
 use borrow.Author.Rules.{rules}
 use Rattle.words.specs.Refusal.{first}
 use Rattle.words.specs.Faults.{length_fault}
-use Rattle.words.proofs.Refusal.{first-left}
+use Rattle.words.proofs.Refusals.{first-left}
 use Rattle.words.proofs.Fill.{set_single}
 use Rattle.records.specs.declared.Heading.{Heading}
 use Rattle.bundle.specs.Bundle.{bundle_fault, bundle_heading}

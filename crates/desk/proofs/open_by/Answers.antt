@@ -3,7 +3,7 @@ use mathlib.Core.Path.{◌≡◌, refl, sym, ap, ◌∙◌}
 use Prim.Native.Nat.{ℕ}
 use lib.ListN.{length}
 use Rattle.words.specs.Refusal.{first}
-use Rattle.words.proofs.Refusal.{first-left, kept-none, kept-some}
+use Rattle.words.proofs.Refusals.{first-left, kept-none, kept-some}
 use Rattle.codewords.specs.Opening.{Opening}
 use Rattle.archive.specs.Archive.{place_opening}
 use Rattle.desk.specs.Desk.{closed_fault, desk_fault, desk_opening}

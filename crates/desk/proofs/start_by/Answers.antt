@@ -1,6 +1,6 @@
 -- `start_by`: the two numbers stay, or are the new ones. Assumes nothing.
 use mathlib.Core.Path.{sym, ◌∙◌}
-use Rattle.words.proofs.Refusal.{kept-none, kept-some}
+use Rattle.words.proofs.Refusals.{kept-none, kept-some}
 use Rattle.desk.proofs.start_by.Goals as goal
 
 pub returns-then-fault-ne0 : goal.returns-then-fault-ne0

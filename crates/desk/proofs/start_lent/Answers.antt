@@ -1,7 +1,7 @@
 -- `start_lent`: the record stays, or is the new one. Assumes nothing.
 use native.Mathlib.Omega.{arith}
 use mathlib.Core.Path.{refl, sym, ◌∙◌}
-use Rattle.words.proofs.Refusal.{kept-none, kept-some}
+use Rattle.words.proofs.Refusals.{kept-none, kept-some}
 use Rattle.desk.proofs.Laws.{start-length, start-judged, start-set}
 use Rattle.desk.proofs.start_lent.Goals as goal
 

@@ -3,7 +3,7 @@ use borrow.Author.Tests.{lt-leb, le-leb}
 use mathlib.Core.Path.{refl, sym, ap, ◌∙◌}
 use native.Mathlib.Omega.{arith}
 use Rattle.words.specs.Refusal.{unless}
-use Rattle.words.proofs.Refusal.{unless-no}
+use Rattle.words.proofs.Refusals.{unless-no}
 use Rattle.words.proofs.Tests.{and_yes, and_no}
 use Rattle.fetch.specs.Fetch.{run_fault}
 use Rattle.fetch.proofs.run_fault.Goals as goal

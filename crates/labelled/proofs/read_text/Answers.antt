@@ -4,7 +4,7 @@ use Rattle.words.specs.Faults.{length_fault}
 use Rattle.words.specs.Refusal.{first, unless, kept, TEXT}
 use Rattle.words.proofs.Faults.{length-clear}
 use Rattle.words.proofs.Fill.{set_single}
-use Rattle.words.proofs.Refusal.{first-left, first-right, first-none, first_some, first_three, unless-yes, unless-no, kept-none, kept-some}
+use Rattle.words.proofs.Refusals.{first-left, first-right, first-none, first_some, first_three, unless-yes, unless-no, kept-none, kept-some}
 use Rattle.words.proofs.Tests.{and_left}
 use Rattle.labelled.specs.declared.LensJob.{LensJob}
 use Rattle.labelled.specs.Reading.{scanned, job_in_range, is_text_of, is_text, words_of}

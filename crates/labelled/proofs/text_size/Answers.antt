@@ -3,7 +3,7 @@ use Rattle.std.proofs.Common.{◌≡◌, ℕ, ◌≤◌, true, List, [], ◌∷�
 use Rattle.words.specs.Refusal.{first}
 use Rattle.words.specs.Word.{all_in_width}
 use Rattle.words.proofs.Fill.{set_single}
-use Rattle.words.proofs.Refusal.{kept-none, kept-some}
+use Rattle.words.proofs.Refusals.{kept-none, kept-some}
 use Rattle.labelled.specs.declared.LensJob.{LensJob}
 use Rattle.labelled.specs.JobText.{lines_of, text_of}
 use Rattle.labelled.specs.Calls.{size_fault}

@@ -2,7 +2,7 @@
 use Rattle.std.proofs.Common.{eqb, length, sym, ◌∙◌, lit<, ne_eqb}
 use Rattle.words.specs.Faults.{length_fault}
 use Rattle.words.proofs.Faults.{clear-length}
-use Rattle.words.proofs.Refusal.{first-none, stop}
+use Rattle.words.proofs.Refusals.{first-none, stop}
 use Rattle.labelled.specs.Calls.{words_fault}
 use Rattle.labelled.proofs.words_fault.Goals as goal
 

@@ -3,7 +3,7 @@ use Rattle.std.proofs.Common.{◌≡◌, ℕ, eqb, List, length, take, sym, ap, 
 use Rattle.words.specs.Faults.{length_fault}
 use Rattle.words.specs.Refusal.{first}
 use Rattle.words.proofs.Faults.{clear-length}
-use Rattle.words.proofs.Refusal.{first-left, first-right, first-none, first_some, first-assoc, unless-no, kept-none, kept-some}
+use Rattle.words.proofs.Refusals.{first-left, first-right, first-none, first_some, first-assoc, unless-no, kept-none, kept-some}
 use Rattle.decimal.specs.Decimal.{written}
 use Rattle.decimal.proofs.Written.{take-written, written-whole}
 use Rattle.labelled.specs.JobText.{lines_of, text_of}

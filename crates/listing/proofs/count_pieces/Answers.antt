@@ -1,7 +1,7 @@
 -- `count_pieces`: one of an input that is refused, and of another one a place. Assumes nothing.
 use borrow.Author.Rules.{rules}
 use mathlib.Core.Path.{sym}
-use Rattle.words.proofs.Refusal.{kept-some}
+use Rattle.words.proofs.Refusals.{kept-some}
 use Rattle.listing.proofs.count_pieces.Goals as goal
 
 pub returns-then-accepted-ne0 : goal.returns-then-accepted-ne0

@@ -8,7 +8,7 @@ use lib.ListN.{length}
 use Rattle.words.specs.Faults.{length_fault}
 use Rattle.words.specs.Refusal.{first, unless, kept, LENGTH}
 use Rattle.words.proofs.Fill.{set_single}
-use Rattle.words.proofs.Refusal.{kept-none, kept-some}
+use Rattle.words.proofs.Refusals.{kept-none, kept-some}
 use Rattle.bundle.proofs.Bundles.{accept-none, accept-files, accept-heading}
 use Rattle.fetch.specs.Fetch.{place_fault}
 use Rattle.decimal.specs.Decimal.{written}

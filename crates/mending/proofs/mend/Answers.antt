@@ -9,7 +9,7 @@ use lib.Dec.{eqb}
 use lib.ListN.{length, take, drop, drop_of_length-le}
 use Rattle.words.specs.Faults.{length_fault}
 use Rattle.words.specs.Refusal.{kept, unless, LENGTH}
-use Rattle.words.proofs.Refusal.{first_some, first-none, unless-yes, unless-no, kept-none, kept-some}
+use Rattle.words.proofs.Refusals.{first_some, first-none, unless-yes, unless-no, kept-none, kept-some}
 use Rattle.records.specs.Num.{Bytes}
 use Rattle.bundle.specs.Bundle.{bundle_fault}
 use Rattle.bundle.proofs.Bundles.{accept-fault, accept-none, accept-files, accept-heading}

@@ -4,7 +4,7 @@ use mathlib.Core.Path.{◌≡◌, sym, ◌∙◌}
 use mathlib.Core.List.{List}
 use Prim.Native.Nat.{ℕ}
 use lib.ListN.{length}
-use Rattle.words.proofs.Refusal.{kept-none, kept-some}
+use Rattle.words.proofs.Refusals.{kept-none, kept-some}
 use Rattle.sharing.specs.Dealing.{dealt, deal_fault}
 use Rattle.sharing.proofs.Faults.{DealClear, deal-clear, few-holders}
 use Rattle.sharing.proofs.deal.Goals as goal

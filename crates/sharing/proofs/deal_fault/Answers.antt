@@ -7,7 +7,7 @@ use Rattle.words.specs.Faults.{params_fault, length_fault, width_fault}
 use Rattle.words.specs.Refusal.{first}
 use Rattle.words.proofs.Faults.{params-clear}
 use Rattle.words.proofs.InRange.{InRange}
-use Rattle.words.proofs.Refusal.{first-none, first_some, first_three}
+use Rattle.words.proofs.Refusals.{first-none, first_some, first_three}
 use Rattle.sharing.specs.Dealing.{deal_fault}
 use Rattle.sharing.proofs.Faults.{few-holders, few_words}
 use Rattle.sharing.proofs.deal_fault.Goals as goal

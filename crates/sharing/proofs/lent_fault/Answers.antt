@@ -6,7 +6,7 @@ use lib.ListN.{length}
 use Rattle.words.specs.Faults.{params_fault, length_fault}
 use Rattle.words.specs.Refusal.{first, unless}
 use Rattle.words.proofs.Faults.{params-clear}
-use Rattle.words.proofs.Refusal.{first-none, first_some, first-assoc, first_three}
+use Rattle.words.proofs.Refusals.{first-none, first_some, first-assoc, first_three}
 use Rattle.codewords.specs.Opening.{lowest_room}
 use Rattle.sharing.specs.Opening.{rising_to, lent_fault}
 use Rattle.sharing.proofs.lent_fault.Goals as goal

@@ -7,7 +7,7 @@ use native.Mathlib.Nat.{le_of_eq}
 use lib.ListN.{length}
 use Rattle.words.specs.Refusal.{unless}
 use Rattle.words.specs.Word.{all_in_width}
-use Rattle.words.proofs.Refusal.{unless-yes, unless-no}
+use Rattle.words.proofs.Refusals.{unless-yes, unless-no}
 use Rattle.records.specs.declared.Heading.{Heading}
 use Rattle.totals.specs.Total.{total_fault}
 use Rattle.totals.proofs.Totals.{Found, asked-found, total-asked, total-tested}

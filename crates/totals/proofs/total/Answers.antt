@@ -6,7 +6,7 @@ use native.Mathlib.Omega.{arith}
 use lib.ListN.{length}
 use Rattle.words.specs.Refusal.{unless}
 use Rattle.words.proofs.InRange.{InRange}
-use Rattle.words.proofs.Refusal.{unless-yes, unless-no}
+use Rattle.words.proofs.Refusals.{unless-yes, unless-no}
 use Rattle.records.specs.declared.Heading.{Heading}
 use Rattle.bundle.proofs.Bundles.{bundle-ok, ranges-of}
 use Rattle.totals.specs.Total.{total_fault}

@@ -8,7 +8,7 @@ use lib.ListN.{length, length-append}
 use lib.Dec.{eqb}
 use Rattle.words.specs.Refusal.{kept, unless}
 use Rattle.words.specs.Faults.{length_fault}
-use Rattle.words.proofs.Refusal.{first_some, first-none, unless-yes, unless-no, kept-none, kept-some}
+use Rattle.words.proofs.Refusals.{first_some, first-none, unless-yes, unless-no, kept-none, kept-some}
 use Rattle.records.specs.Layout.{order_size}
 use Rattle.bundle.specs.Bundle.{files_fault, bundle_fault}
 use Rattle.writer.specs.Bytes.{order_bytes}

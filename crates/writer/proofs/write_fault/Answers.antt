@@ -6,7 +6,7 @@ use mathlib.Core.List.{List}
 use lib.ListN.{length}
 use Rattle.words.specs.Faults.{width_fault}
 use Rattle.words.specs.Refusal.{first, unless}
-use Rattle.words.proofs.Refusal.{first-none, first_some}
+use Rattle.words.proofs.Refusals.{first-none, first_some}
 use Rattle.bundle.specs.Bundle.{ranges_ok, holder_ok}
 use Rattle.writer.specs.Write.{sizes_ok, rising, write_fault}
 use Rattle.writer.proofs.Calls.{write-1, write-rest}

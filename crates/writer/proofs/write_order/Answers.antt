@@ -7,7 +7,7 @@ use lib.ListN.{length}
 use lib.Dec.{eqb}
 use Rattle.words.specs.Refusal.{unless}
 use Rattle.words.specs.Faults.{length_fault}
-use Rattle.words.proofs.Refusal.{unless-yes, unless-no}
+use Rattle.words.proofs.Refusals.{unless-yes, unless-no}
 use Rattle.records.specs.Layout.{order_size}
 use Rattle.writer.specs.Bytes.{order_bytes}
 use Rattle.writer.specs.Write.{order_fault}

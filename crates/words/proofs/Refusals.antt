@@ -1,7 +1,12 @@
 -- Laws of first faults. Assumes nothing.
 use Rattle.std.proofs.Common.{◌≡◌, ℕ, zero, suc, ◌<◌, ◌≤◌, Bool, true, false, sym, refl, ap, ◌∙◌, not-suc-le-zero, arith}
 use native.Mathlib.Decide.{dec_le}
-use Rattle.words.specs.Refusal.{first, unless, first_of, kept}
+use Rattle.std.proofs.Common.{Result}
+use Rattle.std.specs.Result.{IsErrAnd}
+use Rattle.std.proofs.lemmas.Result.{err_from_is_err_and}
+use Rattle.words.specs.declared.Refusal.{Refusal}
+use Rattle.words.specs.declared.Refusal.TheVariants.{Parameters, Length, WideWord, Holder, TooFewShares, NoCodeword, Malformed, Mismatched, OutOfRange, DeskClosed, Text}
+use Rattle.words.specs.Refusal.{number_of, fault_in, first, unless, first_of, kept}
 
 -- no fault is the first of two only where neither is
 pub first-left : (a b : ℕ) → first a b ≡ 0 → a ≡ 0
@@ -128,3 +133,40 @@ kept-none c old new e = rw e
 pub kept-some : {A : Type 0} (c : ℕ) (old new : A) → (c ≡ 0 → ⊥) → kept c old new ≡ old
 kept-some zero old new n = absurd (n refl)
 kept-some (suc c) old new n = refl
+
+-- a refusal's number is none of no fault's
+pub number-some : (e : Refusal) → number_of e ≡ 0 → ⊥
+number-some Parameters h = absurd (omega arith)
+number-some Length h = absurd (omega arith)
+number-some WideWord h = absurd (omega arith)
+number-some Holder h = absurd (omega arith)
+number-some TooFewShares h = absurd (omega arith)
+number-some NoCodeword h = absurd (omega arith)
+number-some Malformed h = absurd (omega arith)
+number-some Mismatched h = absurd (omega arith)
+number-some OutOfRange h = absurd (omega arith)
+number-some DeskClosed h = absurd (omega arith)
+number-some Text h = absurd (omega arith)
+
+-- what the exit of a `?` hands out is the refusal that the call gave
+pub handed_out : {A : Type 0} (r : Result A Refusal) (e : Refusal) → IsErrAnd r (λ y. y ≡ e) → fault_in r ≡ number_of e
+handed_out r e h = let p = err_from_is_err_and r h in rw (p.1, p.2) refl
+
+-- a refusal ends a chain, and a test that holds is passed over
+pub first_refused : (e : Refusal) (a b : ℕ) → number_of e ≡ a → number_of e ≡ first a b
+first_refused e a b h = h ∙ sym (first_some a b (λ z. number-some e (h ∙ z)))
+
+pub first_passed : (a b : ℕ) → 0 ≡ a → b ≡ first a b
+first_passed a b h = sym (first-none a b (sym h))
+
+pub kept_refused : {A : Type 0} (e : Refusal) (f : ℕ) (old new : A) → number_of e ≡ f → old ≡ kept f old new
+kept_refused e f old new h = sym (kept-some f old new (λ z. number-some e (h ∙ z)))
+
+pub declines : {A B : Type 0} (r : Result A Refusal) (e : Refusal) (f : ℕ) (old new : B) → IsErrAnd r (λ y. y ≡ e) → number_of e ≡ f → (fault_in r ≡ f) × (old ≡ kept f old new)
+declines r e f old new h n = (handed_out r e h ∙ n, kept_refused e f old new n)
+
+pub kept_passed : {A : Type 0} (f : ℕ) (old new : A) → 0 ≡ f → new ≡ kept f old new
+kept_passed f old new h = sym (kept-none f old new (sym h))
+
+-- what a chain of tests owes, where each is handed out by `?`
+pub ruleset refusals = (handed_out, first_refused, first_passed, kept_refused, kept_passed)
