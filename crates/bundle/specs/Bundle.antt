@@ -4,14 +4,13 @@
 -- record is a test of the bytes at that position, and the fault of a file or a bundle is the first of its records' faults: "the first fault in
 -- byte order counts". Assumes nothing.
 use Rattle.std.specs.Prelude.{ℕ, zero, suc, ◌+◌, ◌-◌, ◌*◌, ◌/◌, List, Bool, cond, ◌&&◌, ◌||◌, length, get_or, leb, ltb, eqb}
-use Rattle.words.specs.Refusal.{first, unless, first_of, kept, PARAMETERS, HOLDER, MALFORMED, MISMATCHED}
+use Rattle.words.specs.Refusal.{first, unless, first_of, PARAMETERS, HOLDER, MALFORMED, MISMATCHED}
 use Rattle.words.specs.Params.{params_ok}
 use Rattle.words.specs.declared.Params.{Params}
 use Rattle.records.specs.Num.{le_at}
 use Rattle.records.specs.Layout.{body_at, record_size, head_kind, head_len, head_size, job_kind, job_len, job_size, order_kind, order_len, order_size, file_size}
 use Rattle.records.specs.Record.{framed, heading_of}
 use Rattle.records.specs.declared.Heading.{Heading}
-use Rattle.bundle.specs.declared.Accepted.{Accepted}
 
 -- "1 | k, d, n, t or J is outside its range", J being "0 to 1,000"
 abbrev pub most_jobs : ℕ
@@ -115,15 +114,3 @@ holder_of bs f = (heading_of bs (file_at bs f)).holder
 -- "e is the order's allowance", "one byte"
 abbrev pub allowance_of : List ℕ → ℕ
 allowance_of bs = get_or bs (body_at 0) 0
-
--- what accepting bytes gives: the first fault, and of a bundle that has none its number of files and its first heading, else zeros
-abbrev pub no_heading : Heading
-no_heading = record { params = record { k = 0; d = 0; n = 0; t = 0 }; holder = 0; archive = 0; jobs = 0 }
-
-unfoldable pub accepted : List ℕ → Accepted
-accepted bs =
-    record {
-      fault = bundle_fault bs;
-      files = kept (bundle_fault bs) 0 (files_of bs);
-      heading = kept (bundle_fault bs) no_heading (bundle_heading bs);
-    }

@@ -27,7 +27,7 @@ use Rattle.algebra.proofs.Shares.{all_map}
 use Rattle.galois.specs.Element.{Element, point, reduce}
 use Rattle.galois.proofs.Narrow.{reduce-at}
 use Rattle.comparison.specs.Comparison.{position_of, LowestBit}
-use Rattle.comparison.specs.declared.Comparison.TheVariants.{None}
+use Rattle.std.specs.declared.option.Option.TheVariants.{None}
 use Rattle.comparison.proofs.Compared.{none-position, some-position, position-byte, lowest_bit, lowest-room}
 use Rattle.codewords.specs.Codeword.{Share, Polynomial, value, comparison, differs, comparison_of, positions_from, positions}
 use Rattle.codewords.specs.Demand.{Wrong, position_for, value_at, Positions}

@@ -1,14 +1,13 @@
 -- Polynomials, shares and which of them differ, and at which bit, paper 01, "Ring, points, shares", and paper 02, K4; the codeword within an error
 -- bound, if there is one, without any algorithm. Assumes nothing.
-use Rattle.std.specs.Prelude.{ℕ, zero, suc, ◌+◌, ◌-◌, ◌^◌, Bool, cond, not, List, [], ◌∷◌, leb, eqb}
-use Rattle.std.proofs.Math.Option.{Option}
+use Rattle.std.specs.Prelude.{ℕ, zero, suc, ◌+◌, ◌-◌, ◌^◌, Bool, cond, not, List, [], ◌∷◌, leb, eqb, Option}
+use Rattle.std.proofs.Math.Option.{Option as Perhaps}
+use Rattle.std.specs.declared.option.Option.TheVariants.{None}
 use Rattle.words.specs.Word.{all_in_width}
 use Rattle.galois.specs.Element.{Element, point, elements, tuples, find}
 pub use Rattle.polynomial.specs.Polynomial.{Polynomial}
 unfoldable pub use Rattle.polynomial.specs.Polynomial.{value}
 use Rattle.comparison.specs.Comparison.{compared, unequal, position_of}
-use Rattle.comparison.specs.declared.Comparison.{Comparison}
-use Rattle.comparison.specs.declared.Comparison.TheVariants.{None}
 
 -- A share as it stands under a holder. Its words are plain numbers: one of 2^k or more differs from every value.
 pub record Share : Type 0 where
@@ -16,7 +15,7 @@ pub record Share : Type 0 where
   pub words : Element
 
 -- a share compared with a polynomial's value at its holder's point
-unfoldable pub comparison : ℕ → ℕ → Polynomial → Share → Comparison
+unfoldable pub comparison : ℕ → ℕ → Polynomial → Share → Option ℕ
 unfolding value point compared
 comparison k d p s = compared s.words (value k d p (point d s.holder))
 
@@ -41,7 +40,7 @@ error_set k d p [] = 0
 error_set k d p (s ∷ ss) = when (differs k d p s) (2 ^ (s.holder - 1)) + error_set k d p ss
 
 -- holder i's share compared: none where it has no share, "A missing holder neither differs nor agrees."
-unfoldable pub comparison_of : ℕ → ℕ → Polynomial → List Share → ℕ → Comparison
+unfoldable pub comparison_of : ℕ → ℕ → Polynomial → List Share → ℕ → Option ℕ
 unfolding comparison
 comparison_of k d p [] i = None
 comparison_of k d p (s ∷ ss) i = cond (eqb s.holder i) (comparison k d p s) (comparison_of k d p ss i)
@@ -74,6 +73,6 @@ unfolding elements tuples
 polynomials k d t = tuples (elements k d) (suc t)
 
 -- the polynomial of degree at most t that differs from e shares or fewer
-unfoldable pub codeword : ℕ → ℕ → ℕ → ℕ → List Share → Option Polynomial
+unfoldable pub codeword : ℕ → ℕ → ℕ → ℕ → List Share → Perhaps Polynomial
 unfolding polynomials find errors
 codeword k d t e ss = find (λ p. leb (errors k d p ss) e) (polynomials k d t)

@@ -24,8 +24,8 @@ use Rattle.galois.proofs.Elements.{same-eq, eq-same}
 use Rattle.galois.proofs.Held.{zeros-after}
 use Rattle.galois.proofs.Zip.{six-words}
 use Rattle.comparison.specs.Comparison.{gap, lowest_in, compared, unequal, apart, position_of, LowestBit}
-use Rattle.comparison.specs.declared.Comparison.{Comparison}
-use Rattle.comparison.specs.declared.Comparison.TheVariants.{Lowest, None}
+use Rattle.std.specs.Prelude.{Option}
+use Rattle.std.specs.declared.option.Option.TheVariants.{Some, None}
 
 -- ---- two numbers together: zero, below a bit, and at a bit
 
@@ -182,9 +182,9 @@ module _ (a b : Element) (l : length a ≡ length b) (x : all_in_width 64 a ≡ 
   lowest-room = is-lowest.1
 
 -- 255 is none's number and no other's
-pub none-position : (c : Comparison) → unequal c ≡ false → position_of c ≡ 255
+pub none-position : (c : Option ℕ) → unequal c ≡ false → position_of c ≡ 255
 none-position None e = refl
-none-position (Lowest v) e = true-false e
+none-position (Some v) e = true-false e
 
 pub some-position : (a v : Element) → unequal (compared a v) ≡ true → position_of (compared a v) ≢ 255
 unfolding compared
@@ -222,11 +222,11 @@ pub compared-none : (a v : Element) → gap a v ≡ 0 → compared a v ≡ None
 unfolding compared
 compared-none a v e = ap lowest_in e
 
-pub compared-some : (a v : Element) → (gap a v ≡ 0 → ⊥) → compared a v ≡ Lowest (count_trailing_zeros 64 (gap a v))
+pub compared-some : (a v : Element) → (gap a v ≡ 0 → ⊥) → compared a v ≡ Some (count_trailing_zeros 64 (gap a v))
 unfolding compared
 compared-some a v = go (gap a v)
   where
-    go : (g : ℕ) → (g ≡ 0 → ⊥) → lowest_in g ≡ Lowest (count_trailing_zeros 64 g)
+    go : (g : ℕ) → (g ≡ 0 → ⊥) → lowest_in g ≡ Some (count_trailing_zeros 64 g)
     go zero n = absurd (n refl)
     go (suc g) n = refl
 

@@ -4,13 +4,6 @@
 ghost use Rattle.std.specs.Prelude.{◌≡◌};
 ghost use Rattle.comparison.specs.Comparison.{gap, compared, position_of};
 
-// How they compare: the lowest bit position at which any of the words differs, or that none does.
-#[derive(Clone, Copy)]
-pub enum Comparison {
-    Lowest(u8),
-    None,
-}
-
 // What stands for none in an output: the definition's position_of.
 pub const NONE: u8 = 255;
 
@@ -24,22 +17,20 @@ pub fn gap(share: [u64; 6], value: [u64; 6]) -> u64
                 | ((share[3] ^ value[3]) | ((share[4] ^ value[4]) | (share[5] ^ value[5])))))
 }
 
-pub fn compare(share: [u64; 6], value: [u64; 6]) -> Comparison
+// The lowest bit position at which any of the words differs, or that none does.
+pub fn compare(share: [u64; 6], value: [u64; 6]) -> Option<u8>
     ensures { result ≡ compared share value }
 {
     let bits = gap(share, value);
     if bits == 0 {
-        return Comparison::None;
+        return None;
     }
-    Comparison::Lowest(u64::trailing_zeros(bits) as u8)
+    Some(u64::trailing_zeros(bits) as u8)
 }
 
 // Its number in an output.
-pub fn position(c: Comparison) -> u8
-    ensures { result ≡ position_of c }
+pub fn position(lowest: Option<u8>) -> u8
+    ensures { result ≡ position_of lowest }
 {
-    match c {
-        Comparison::Lowest(v) => v,
-        Comparison::None => NONE,
-    }
+    lowest.unwrap_or(NONE)
 }

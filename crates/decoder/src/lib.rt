@@ -13,11 +13,12 @@ ghost use Rattle.codewords.specs.Residue.{without};
 ghost use Rattle.codewords.specs.WellFormed.{InWidth, Rising, Holders};
 ghost use Rattle.level.specs.Shares.{share, shares_of, Sized};
 ghost use Rattle.words.specs.Params.{params_ok};
-ghost use Rattle.words.specs.Refusal.{kept};
-ghost use Rattle.decoder.specs.Decoded.{Ordered};
+ghost use Rattle.words.specs.Refusal.{fault_in, kept};
+ghost use Rattle.decoder.specs.Decoded.{Ordered, wrong_in};
 ghost use Rattle.decoder.specs.LeftOut.{LeftOut};
 
 use rounds::Found;
+use words::Refusal;
 
 // Drops the shares of the holders in w; the others move up, in order. Each share is written to the next place, which counts only if the
 // share is kept. Returns how many are.
@@ -66,14 +67,6 @@ fn copy_others(
     j
 }
 
-// What shares open to: the fault 5, 6 or 0, and the set of the wrong holders, bit i - 1 for holder i, which is empty where there is a fault.
-// Where there is none the polynomial is in lent rows.
-#[derive(Clone, Copy)]
-pub struct Opened {
-    pub fault: u8,
-    pub wrong: u64,
-}
-
 // The search: `count` shares are still in, of which `bound` may differ; those of the holders in `wrong` are out, and the others move up in the
 // lent arrays. The rows are room for interpolation, and then for what the polynomial leaves of the shares; at the end they hold the codeword.
 fn search(
@@ -85,13 +78,13 @@ fn search(
     ys: &mut [[u64; 6]; 63],
     e: u64,
     rows: &mut [[u64; 6]; 64],
-) -> Opened
+) -> Result<u64, Refusal>
     requires { ((1 ≤ k) × (k ≤ 64)) × ((2 ≤ d) × (d ≤ 6)) × (t ≤ 62) × (m ≤ 63) × (suc t + 2 * e ≤ m)
         × Holders d (shares_of d m hs.old ys.old) × Rising (shares_of d m hs.old ys.old) × InWidth k d (shares_of d m hs.old ys.old)
         × (length hs.old ≡ 63) × (length ys.old ≡ 63) × Shaped rows.old }
-    ensures opening { opening_in d t result.fault rows.new
+    ensures opening { opening_in d t (fault_in result) rows.new
         ≡ from_codeword (codeword k d t e (shares_of d m hs.old ys.old)) }
-    ensures wrong { result.wrong ≡ wrong_of k d (shares_of d m hs.old ys.old)
+    ensures wrong { wrong_in result ≡ wrong_of k d (shares_of d m hs.old ys.old)
         (from_codeword (codeword k d t e (shares_of d m hs.old ys.old))) }
     ensures shaped { Shaped rows.new }
     ensures room { (length hs.new ≡ 63) × (length ys.new ≡ 63) }
@@ -101,15 +94,12 @@ fn search(
     let mut count = m;
     loop {
         let got = rounds::round(k, d, t, count, hs, ys, bound, rows);
-        let Found::Wrong(w, all) = got else {
-            return Opened {
-                fault: words::NO_CODEWORD,
-                wrong: 0,
-            };
+        let Some(Found { wrong: w, all }) = got else {
+            return Err(Refusal::NoCodeword);
         };
         wrong += w;
         if all {
-            return Opened { fault: 0, wrong };
+            return Ok(wrong);
         }
         let errors = u64::count_ones(w) as u64;
         bound -= errors;
@@ -129,14 +119,14 @@ fn search_without(
     u: u64,
     e: u64,
     rows: &mut [[u64; 6]; 64],
-) -> Opened
+) -> Result<u64, Refusal>
     requires { ((1 ≤ k) × (k ≤ 64)) × ((2 ≤ d) × (d ≤ 6)) × (t ≤ 62) × (m ≤ 63)
         × Holders d (shares_of d m hs.now ys.now) × Rising (shares_of d m hs.now ys.now)
         × LeftOut k d t e (shares_of d m hs.now ys.now) u
         × (length hs.now ≡ 63) × (length ys.now ≡ 63) × Shaped rows.old }
-    ensures opening { opening_in d t result.fault rows.new
+    ensures opening { opening_in d t (fault_in result) rows.new
         ≡ from_codeword (codeword k d t e (shares_of d m hs.now ys.now)) }
-    ensures wrong { result.wrong ≡ wrong_of k d (shares_of d m hs.now ys.now)
+    ensures wrong { wrong_in result ≡ wrong_of k d (shares_of d m hs.now ys.now)
         (from_codeword (codeword k d t e (shares_of d m hs.now ys.now))) }
     ensures shaped { Shaped rows.new }
 {
@@ -144,14 +134,8 @@ fn search_without(
     let mut shares = [[0u64; 6]; 63];
     let errors = u64::count_ones(u) as u64;
     let count = copy_others(u, m, hs, ys, &mut holders, &mut shares);
-    let found = search(k, d, t, count, &mut holders, &mut shares, e - errors, rows);
-    if found.fault != 0 {
-        return found;
-    }
-    Opened {
-        fault: 0,
-        wrong: u + found.wrong,
-    }
+    let found = search(k, d, t, count, &mut holders, &mut shares, e - errors, rows)?;
+    Ok(u + found)
 }
 
 // The search among shares with no wide word. The first round reads the lent arrays themselves; only if it drops shares and the search goes on
@@ -165,27 +149,24 @@ fn search_lent(
     ys: &[[u64; 6]; 63],
     e: u64,
     rows: &mut [[u64; 6]; 64],
-) -> Opened
+) -> Result<u64, Refusal>
     requires { ((1 ≤ k) × (k ≤ 64)) × ((2 ≤ d) × (d ≤ 6)) × (t ≤ 62) × (m ≤ 63) × (suc t + 2 * e ≤ m)
         × Holders d (shares_of d m hs.now ys.now) × Rising (shares_of d m hs.now ys.now) × InWidth k d (shares_of d m hs.now ys.now)
         × (length hs.now ≡ 63) × (length ys.now ≡ 63) × Shaped rows.old }
-    ensures opening { opening_in d t result.fault rows.new
+    ensures opening { opening_in d t (fault_in result) rows.new
         ≡ from_codeword (codeword k d t e (shares_of d m hs.now ys.now)) }
-    ensures wrong { result.wrong ≡ wrong_of k d (shares_of d m hs.now ys.now)
+    ensures wrong { wrong_in result ≡ wrong_of k d (shares_of d m hs.now ys.now)
         (from_codeword (codeword k d t e (shares_of d m hs.now ys.now))) }
     ensures shaped { Shaped rows.new }
 {
     let got = rounds::round(k, d, t, m, hs, ys, e, rows);
-    let Found::Wrong(w, all) = got else {
-        return Opened {
-            fault: words::NO_CODEWORD,
-            wrong: 0,
-        };
+    let Some(Found { wrong, all }) = got else {
+        return Err(Refusal::NoCodeword);
     };
     if all {
-        return Opened { fault: 0, wrong: w };
+        return Ok(wrong);
     }
-    search_without(k, d, t, m, hs, ys, w, e, rows)
+    search_without(k, d, t, m, hs, ys, wrong, e, rows)
 }
 
 // The holders whose shares have a wide word.
@@ -231,24 +212,19 @@ fn search_in_width(
     ys: &[[u64; 6]; 63],
     e: u64,
     rows: &mut [[u64; 6]; 64],
-) -> Opened
+) -> Result<u64, Refusal>
     requires { ((1 ≤ k) × (k ≤ 64)) × ((2 ≤ d) × (d ≤ 6)) × (t ≤ 62) × (m ≤ 63) × (suc t + 2 * e ≤ m)
         × Holders d (shares_of d m hs.now ys.now) × Rising (shares_of d m hs.now ys.now) × Sized d (shares_of d m hs.now ys.now)
         × (length hs.now ≡ 63) × (length ys.now ≡ 63) × Shaped rows.old }
-    ensures opening { opening_in d t result.fault rows.new
+    ensures opening { opening_in d t (fault_in result) rows.new
         ≡ from_codeword (codeword k d t e (shares_of d m hs.now ys.now)) }
-    ensures wrong { result.wrong ≡ wrong_of k d (shares_of d m hs.now ys.now)
+    ensures wrong { wrong_in result ≡ wrong_of k d (shares_of d m hs.now ys.now)
         (from_codeword (codeword k d t e (shares_of d m hs.now ys.now))) }
     ensures shaped { Shaped rows.new }
 {
     let wide = wide_holders(k, d, m, hs, ys);
     let errors = u64::count_ones(wide) as u64;
-    if e < errors {
-        return Opened {
-            fault: words::NO_CODEWORD,
-            wrong: 0,
-        };
-    }
+    words::unless(errors <= e, Refusal::NoCodeword)?;
     search_without(k, d, t, m, hs, ys, wide, e, rows)
 }
 
@@ -262,29 +238,19 @@ pub fn decode(
     narrow: bool,
     e: u64,
     rows: &mut [[u64; 6]; 64],
-) -> Opened
+) -> Result<u64, Refusal>
     requires { (params_ok p ≡ true) × (m ≤ 63) × Ordered p.n (shares_of p.d m holders.now shares.now)
         × Sized p.d (shares_of p.d m holders.now shares.now)
         × (narrow ≡ true → InWidth p.k p.d (shares_of p.d m holders.now shares.now))
         × (length holders.now ≡ 63) × (length shares.now ≡ 63) × Shaped rows.old }
-    ensures opening { opening_in p.d p.t result.fault rows.new
+    ensures opening { opening_in p.d p.t (fault_in result) rows.new
         ≡ answer_to p e (shares_of p.d m holders.now shares.now) }
-    ensures wrong { result.wrong ≡ wrong_of p.k p.d (shares_of p.d m holders.now shares.now)
+    ensures wrong { wrong_in result ≡ wrong_of p.k p.d (shares_of p.d m holders.now shares.now)
         (answer_to p e (shares_of p.d m holders.now shares.now)) }
     ensures shaped { Shaped rows.new }
 {
-    if m <= p.t {
-        return Opened {
-            fault: words::TOO_FEW_SHARES,
-            wrong: 0,
-        };
-    }
-    if (((m - p.t - 1) / 2) as u64) < e {
-        return Opened {
-            fault: words::TOO_FEW_SHARES,
-            wrong: 0,
-        };
-    }
+    words::unless(p.t < m, Refusal::TooFewShares)?;
+    words::unless(e <= ((m - p.t - 1) / 2) as u64, Refusal::TooFewShares)?;
     if narrow {
         return search_lent(p.k, p.d, p.t, m, holders, shares, e, rows);
     }
@@ -357,34 +323,31 @@ pub fn lowest_bits(
 }
 
 // Hands out what is opened from m shares: the job's words, which are the free term's, into an output of d words, the wrong holders into one of one
-// word, their positions into one of 64 bytes, and the fault; the outputs stay where there is one.
+// word, their positions into one of 64 bytes; the outputs stay where it is refused.
 pub fn hand_out(
     p: words::Params,
     m: usize,
     holders: &[u64; 63],
     shares: &[[u64; 6]; 63],
-    opened: Opened,
+    opened: Result<u64, Refusal>,
     rows: &[[u64; 6]; 64],
     out: &mut [u64],
     wrong: &mut [u64],
     lowest: &mut [u8],
-) -> u8
+) -> Result<(), Refusal>
     requires { (params_ok p ≡ true) × (m ≤ 63) × Ordered p.n (shares_of p.d m holders.now shares.now)
         × Shaped rows.now × (length out.old ≡ p.d) × (length wrong.old ≡ 1) × (length lowest.old ≡ lowest_room)
-        × (opened.fault ≡ 0
-        → opened.wrong ≡ error_set p.k p.d (coefs p.d (suc p.t) rows.now) (shares_of p.d m holders.now shares.now)) }
-    ensures fault { result ≡ opened.fault }
-    ensures out { out.new ≡ kept opened.fault out.old (take p.d (get_or rows.now 0 [])) }
-    ensures wrong { wrong.new ≡ kept opened.fault wrong.old (opened.wrong ∷ []) }
-    ensures lowest { lowest.new ≡ kept opened.fault lowest.old
+        × IfOk opened (λ w. w ≡ error_set p.k p.d (coefs p.d (suc p.t) rows.now) (shares_of p.d m holders.now shares.now)) }
+    ensures fault { fault_in result ≡ fault_in opened }
+    ensures out { out.new ≡ kept (fault_in opened) out.old (take p.d (get_or rows.now 0 [])) }
+    ensures wrong { wrong.new ≡ kept (fault_in opened) wrong.old (wrong_in opened ∷ []) }
+    ensures lowest { lowest.new ≡ kept (fault_in opened) lowest.old
         (positions p.k p.d (coefs p.d (suc p.t) rows.now)
         (shares_of p.d m holders.now shares.now)) }
 {
-    if opened.fault != 0 {
-        return opened.fault;
-    }
+    let found = opened?;
     ring::store(p.d, out, 0, rows[0]);
-    wrong[0] = opened.wrong;
-    lowest_bits(p, m, holders, shares, rows, opened.wrong, lowest);
-    0
+    wrong[0] = found;
+    lowest_bits(p, m, holders, shares, rows, found, lowest);
+    Ok(())
 }

@@ -20,13 +20,6 @@ ghost use Rattle.level.specs.Shares.{share, shares_of, Sized, Numbered, holder_s
 ghost use Rattle.level.specs.KeyEquation.{pairs_of, lead_of, zero_at, mix_lanes, root_lanes, step_lanes, start_lanes, run_lanes};
 ghost use Rattle.level.specs.Interpolation.{newton_of, trust_lanes, start_newton, gather_lanes};
 
-// What one level gives: the set of the holders whose shares differ from the codeword, or that there is none within the error bound.
-#[derive(Clone, Copy)]
-pub enum Level {
-    Codeword(u64),
-    Nothing,
-}
-
 // The degrees of the key equation's two pairs.
 #[derive(Clone, Copy)]
 struct Degrees {
@@ -268,7 +261,7 @@ fn holder_set(lanes: u64, m: usize, hs: &[u64; 63]) -> u64
     w
 }
 
-// The field decoder at bit v of the shares.
+// The field decoder at bit v of the shares: the set of the holders whose shares differ from the codeword, if there is one within the error bound.
 pub fn decide(
     d: usize,
     v: u64,
@@ -277,7 +270,7 @@ pub fn decide(
     hs: &[u64; 63],
     rest: &[[u64; 6]; 64],
     e: u64,
-) -> Level
+) -> Option<u64>
     requires { ((2 ≤ d) × (d ≤ 6)) × (v < 64) × (t ≤ 62) × (m ≤ 63)
         × Holders d (shares_of d m hs.now rest.now) × Sized d (shares_of d m hs.now rest.now) × (suc t + 2 * e ≤ m) }
     ensures level { result ≡ level_of d (map (bit_share v) (shares_of d m hs.now rest.now))
@@ -291,11 +284,11 @@ pub fn decide(
     let mut gap = y;
     let n = gather(d, x, t, m, trusted, &mut gap);
     if n <= t {
-        return Level::Nothing;
+        return None;
     }
     let wrong = holder_set(sliced::support(d, gap), m, hs);
     if u64::count_ones(wrong) as u64 <= e {
-        return Level::Codeword(wrong);
+        return Some(wrong);
     }
-    Level::Nothing
+    None
 }

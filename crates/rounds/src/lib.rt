@@ -10,8 +10,6 @@ ghost use Rattle.level.specs.Shares.{shares_of};
 ghost use Rattle.rounds.specs.Found.{level_found, found_fault, round_fault};
 ghost use Rattle.rounds.specs.Residues.{Through, bits_of_all};
 
-use level::Level;
-
 // The shares that differ from a polynomial: the set of their holders, and every bit at which a word of one of them differs.
 #[derive(Clone, Copy)]
 struct Differing {
@@ -19,12 +17,11 @@ struct Differing {
     bits: u64,
 }
 
-// What one level gives: the set of the holders whose shares it finds wrong, and whether they are all that differ from the polynomial, which is
-// then the codeword; or that there is no codeword within the error bound.
+// The holders whose shares one level finds wrong, and whether they are all that differ from the polynomial, which is then the codeword.
 #[derive(Clone, Copy)]
-pub enum Found {
-    Wrong(u64, bool),
-    Nothing,
+pub struct Found {
+    pub wrong: u64,
+    pub all: bool,
 }
 
 // The first n rows set to zero.
@@ -112,7 +109,7 @@ fn compare(n: usize, m: usize, hs: &[u64; 63], rest: &[[u64; 6]; 64]) -> Differi
     Differing { set, bits }
 }
 
-// One level: what the polynomial p, which goes through the first t + 1 shares, leaves of the others; if more of them than e differ from it, the
+// One level, if there is a codeword within the error bound: what the polynomial p, which goes through the first t + 1 shares, leaves of the others; if more of them than e differ from it, the
 // field decoder at the lowest bit at which any does. The first t + 1 rows of `rest` are zero: nothing is left of the shares that p goes through.
 fn decode_level(
     k: u64,
@@ -124,7 +121,7 @@ fn decode_level(
     ys: &[[u64; 6]; 63],
     rest: &mut [[u64; 6]; 64],
     e: u64,
-) -> Found
+) -> Option<Found>
     requires { ((1 ≤ k) × (k ≤ 64)) × ((2 ≤ d) × (d ≤ 6)) × (t ≤ 62) × (m ≤ 63) × (suc t + 2 * e ≤ m)
         × Holders d (shares_of d m hs.now ys.now) × InWidth k d (shares_of d m hs.now ys.now)
         × Through k d t (shares_of d (suc t) hs.now ys.now) p
@@ -136,14 +133,14 @@ fn decode_level(
     level::residues(k, d, p, t, m, hs, ys, rest);
     let c = compare(t + 1, m, hs, rest);
     if u64::count_ones(c.set) as u64 <= e {
-        return Found::Wrong(c.set, true);
+        return Some(Found {
+            wrong: c.set,
+            all: true,
+        });
     }
     let v = u64::trailing_zeros(c.bits) as u64;
-    let got = level::decide(d, v, t, m, hs, rest, e);
-    let Level::Codeword(w) = got else {
-        return Found::Nothing;
-    };
-    Found::Wrong(w, false)
+    let wrong = level::decide(d, v, t, m, hs, rest, e)?;
+    Some(Found { wrong, all: false })
 }
 
 // One round: the polynomial through the first t + 1 shares, and what one level gives for it. The rows are room for interpolation and for what the
@@ -158,7 +155,7 @@ pub fn round(
     ys: &[[u64; 6]; 63],
     e: u64,
     rows: &mut [[u64; 6]; 64],
-) -> Found
+) -> Option<Found>
     requires { ((1 ≤ k) × (k ≤ 64)) × ((2 ≤ d) × (d ≤ 6)) × (t ≤ 62) × (m ≤ 63) × (suc t + 2 * e ≤ m)
         × Holders d (shares_of d m hs.now ys.now) × InWidth k d (shares_of d m hs.now ys.now) × Shaped rows.old }
     ensures through { Through k d t (shares_of d (suc t) hs.now ys.now) rows.new }

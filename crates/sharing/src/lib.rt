@@ -3,7 +3,7 @@
 #![tactic(auto)]
 
 ghost use Rattle.std.specs.Prelude.{◌≡◌, true, ◌∷◌, ◌*◌, ◌≤◌, eqb, length, take};
-ghost use Rattle.words.specs.Refusal.{kept};
+ghost use Rattle.words.specs.Refusal.{fault_in, kept};
 ghost use Rattle.galois.specs.Element.{held, point};
 ghost use Rattle.polynomial.specs.Polynomial.{value};
 ghost use Rattle.polynomial.specs.Rows.{coefs};
@@ -11,28 +11,23 @@ ghost use Rattle.codewords.specs.Opening.{fault_of, secret_into, wrong_into, low
 ghost use Rattle.sharing.specs.Dealing.{elements_of, dealt, deal_fault};
 ghost use Rattle.sharing.specs.Opening.{lent, rising_to, lent_fault, opening};
 
-// The fault of dealing into an output of length n.
-fn deal_fault(p: words::Params, secret: &[u64], coefficients: &[u64], n: usize) -> u8
-    ensures { result ≡ deal_fault p secret.now coefficients.now n }
+use words::Refusal;
+
+// Tests what is lent to a dealing into an output of length n. Words are read only where there are as many as there should be.
+fn check_deal(
+    p: words::Params,
+    secret: &[u64],
+    coefficients: &[u64],
+    n: usize,
+) -> Result<(), Refusal>
+    ensures { fault_in result ≡ deal_fault p secret.now coefficients.now n }
 {
-    // Products of the parameters are small enough only where these are in their ranges.
-    let fault = words::params_fault(p);
-    if fault != 0 {
-        return fault;
-    }
-    let output = words::length_fault(p.n * p.d, n);
-    let lengths = words::first(
-        words::length_fault(p.d, secret.len()),
-        words::first(words::length_fault(p.t * p.d, coefficients.len()), output),
-    );
-    // Words are read only where there are as many as there should be.
-    if lengths != 0 {
-        return lengths;
-    }
-    words::first(
-        words::width_fault(p.k, secret),
-        words::width_fault(p.k, coefficients),
-    )
+    words::check_params(p)?;
+    words::check_length(p.d, secret.len())?;
+    words::check_length(p.t * p.d, coefficients.len())?;
+    words::check_length(p.n * p.d, n)?;
+    words::check_width(p.k, secret)?;
+    words::check_width(p.k, coefficients)
 }
 
 // The value at holder x's point, in words of 64 bits, of the polynomial with the secret for its free term and the t coefficients after it, by
@@ -90,17 +85,19 @@ fn write_shares(p: words::Params, secret: &[u64], coefficients: &[u64], out: &mu
 }
 
 // A job, the secret, dealt to n holders with t further coefficients, which the caller draws at random: the shares one after another.
-pub fn deal(p: words::Params, secret: &[u64], coefficients: &[u64], out: &mut [u64]) -> u8
-    ensures { (result ≡ deal_fault p secret.now coefficients.now (length out.old))
+pub fn deal(
+    p: words::Params,
+    secret: &[u64],
+    coefficients: &[u64],
+    out: &mut [u64],
+) -> Result<(), Refusal>
+    ensures { (fault_in result ≡ deal_fault p secret.now coefficients.now (length out.old))
         × (out.new ≡ kept (deal_fault p secret.now coefficients.now (length out.old))
         out.old (dealt p secret.now coefficients.now)) }
 {
-    let fault = deal_fault(p, secret, coefficients, out.len());
-    if fault != 0 {
-        return fault;
-    }
+    check_deal(p, secret, coefficients, out.len())?;
     write_shares(p, secret, coefficients, out);
-    0
+    Ok(())
 }
 
 // Whether holders are from 1 to n and strictly rise.
@@ -134,24 +131,23 @@ fn elements_ok(m: usize, d: usize, n: usize) -> bool
     n / d == m
 }
 
-// The refusals of lent shares ahead of 5, for outputs of n and of w words and of l bytes.
-fn lent_fault(p: words::Params, holders: &[u64], shares: &[u64], n: usize, w: usize, l: usize) -> u8
-    ensures { result ≡ lent_fault p holders.now shares.now n w l }
+// Tests lent shares, ahead of whether they are enough, for outputs of n and of w words and of l bytes.
+fn check_lent(
+    p: words::Params,
+    holders: &[u64],
+    shares: &[u64],
+    n: usize,
+    w: usize,
+    l: usize,
+) -> Result<(), Refusal>
+    ensures { fault_in result ≡ lent_fault p holders.now shares.now n w l }
 {
-    let fault = words::params_fault(p);
-    if fault != 0 {
-        return fault;
-    }
-    let sized = words::unless(elements_ok(holders.len(), p.d, shares.len()), words::LENGTH);
-    let outputs = words::first(
-        words::length_fault(p.d, n),
-        words::first(words::length_fault(1, w), words::length_fault(64, l)),
-    );
-    let lengths = words::first(sized, outputs);
-    if lengths != 0 {
-        return lengths;
-    }
-    words::unless(rising(p.n, holders), words::HOLDER)
+    words::check_params(p)?;
+    words::unless(elements_ok(holders.len(), p.d, shares.len()), Refusal::Length)?;
+    words::check_length(p.d, n)?;
+    words::check_length(1, w)?;
+    words::check_length(64, l)?;
+    words::unless(rising(p.n, holders), Refusal::Holder)
 }
 
 // Lent holders, in an array.
@@ -193,8 +189,8 @@ pub fn open_shares(
     out: &mut [u64],
     wrong: &mut [u64],
     lowest: &mut [u8],
-) -> u8
-    ensures fault { result ≡ fault_of (opening p holders.now shares.now e (length out.old)
+) -> Result<(), Refusal>
+    ensures fault { fault_in result ≡ fault_of (opening p holders.now shares.now e (length out.old)
         (length wrong.old) (length lowest.old)) }
     ensures out { out.new ≡ secret_into out.old (opening p holders.now shares.now e
         (length out.old) (length wrong.old) (length lowest.old)) }
@@ -205,10 +201,7 @@ pub fn open_shares(
         lowest.old (opening p holders.now shares.now e (length out.old)
         (length wrong.old) (length lowest.old)) }
 {
-    let fault = lent_fault(p, holders, shares, out.len(), wrong.len(), lowest.len());
-    if fault != 0 {
-        return fault;
-    }
+    check_lent(p, holders, shares, out.len(), wrong.len(), lowest.len())?;
     let m = holders.len();
     let hs = load_holders(holders);
     let ys = load_shares(p.d, m, shares);

@@ -2,18 +2,19 @@
 // a run that both are made by. It adds each word where the sum stands, as it is read, and takes the words together, bit by bit, to tell their width.
 #![tactic(auto)]
 
-ghost use Rattle.std.specs.Prelude.{◌≡◌, ◌++◌, ℕ, ◌+◌, ◌-◌, ◌*◌, ◌≤◌, ◌<◌, length, take, drop};
+ghost use Rattle.std.specs.Prelude.{◌≡◌, ◌++◌, ℕ, ◌+◌, ◌-◌, ◌*◌, ◌≤◌, ◌<◌, length, take, drop, IfOk};
 ghost use Rattle.std.specs.Int.Bits.{bit_or};
 ghost use Rattle.words.specs.Word.{in_width, all_in_width};
 ghost use Rattle.galois.specs.Element.{sum, difference, zero_e, reduce};
 ghost use Rattle.records.specs.Num.{le_at};
-ghost use Rattle.bundle.specs.Bundle.{bundle_fault, bundle_heading, files_of};
+ghost use Rattle.words.specs.Refusal.{fault_in};
 ghost use Rattle.bundle.specs.Contents.{words_from};
 ghost use Rattle.fetch.specs.Fetch.{file_of};
 ghost use Rattle.totals.specs.Values.{every};
 ghost use Rattle.totals.specs.Total.{sum_to, run_total, run_in_width, asked_fault, total_fault, total_words, added_to, add_total_fault, add_total_words};
 
-use records::Heading;
+use bundle::Bundle;
+use words::Refusal;
 
 // The word at a position, read from the bytes that begin there: only so does the compiler see one load before it looks for words to add together.
 fn load_word(bytes: &[u8], at: usize) -> u64
@@ -106,12 +107,14 @@ fn cut_words(k: u64, d: usize, running: &mut [u64])
 }
 
 // Adds the places a to b - 1 of file f of an accepted bundle to the first d of the lent words, with code for each d; the words of the run, together.
-pub fn add_run(bytes: &[u8], h: Heading, f: usize, a: usize, b: usize, running: &mut [u64]) -> u64
-    requires { (bundle_fault bytes.now ≡ 0) × (h ≡ bundle_heading bytes.now) × (f < files_of bytes.now) × (a ≤ b) × (b ≤ h.jobs)
-        × (h.params.d ≤ length running.old) }
-    ensures { (in_width h.params.k result ≡ run_in_width bytes.now f a (b - a))
-        × (running.new ≡ added_to h.params.k running.old (run_total bytes.now f a (b - a))) }
+pub fn add_run(bundle: &Bundle, f: usize, a: usize, b: usize, running: &mut [u64]) -> u64
+    requires { (f < bundle.now.files) × (a ≤ b) × (b ≤ bundle.now.heading.jobs)
+        × (bundle.now.heading.params.d ≤ length running.old) }
+    ensures { (in_width bundle.now.heading.params.k result ≡ run_in_width bundle.now.bytes.now f a (b - a))
+        × (running.new ≡ added_to bundle.now.heading.params.k running.old (run_total bundle.now.bytes.now f a (b - a))) }
 {
+    let bytes = bundle.bytes;
+    let h = bundle.heading;
     let at = fetch::job_at(h, f, a) + records::PREFIX_SIZE + records::NUMBER_SIZE;
     let size = records::LENGTH_SIZE + records::job_length(h);
     let d = h.params.d;
@@ -139,91 +142,81 @@ fn negate(k: u64, running: &mut [u64])
 }
 
 // Takes the places a to b - 1 off a lent element, by the pass that adds: the negative, with the run added, is the negative of what is left.
-fn take_run(bytes: &[u8], h: Heading, f: usize, a: usize, b: usize, running: &mut [u64])
-    requires { (bundle_fault bytes.now ≡ 0) × (h ≡ bundle_heading bytes.now) × (f < files_of bytes.now) × (a ≤ b) × (b ≤ h.jobs)
-        × (length running.old ≡ h.params.d) }
-    ensures { running.new ≡ difference h.params.k running.old (run_total bytes.now f a (b - a)) }
+fn take_run(bundle: &Bundle, f: usize, a: usize, b: usize, running: &mut [u64])
+    requires { (f < bundle.now.files) × (a ≤ b) × (b ≤ bundle.now.heading.jobs)
+        × (length running.old ≡ bundle.now.heading.params.d) }
+    ensures { running.new ≡ difference bundle.now.heading.params.k running.old (run_total bundle.now.bytes.now f a (b - a)) }
 {
-    let k = h.params.k;
+    let k = bundle.heading.params.k;
     negate(k, running);
-    let _ = add_run(bytes, h, f, a, b, running);
+    let _ = add_run(bundle, f, a, b, running);
     negate(k, running);
 }
 
-// The file of a holder, in an accepted bundle that has the places a to b - 1, by its heading; or the number of what is amiss.
+// A bundle, and the file in it that a call is asked of.
 #[derive(Clone, Copy)]
-struct Located {
-    fault: u8,
-    heading: Heading,
+struct Located<'a> {
+    bundle: Bundle<'a>,
     file: usize,
 }
 
-fn locate(bytes: &[u8], holder: usize, a: usize, b: usize, out: usize) -> Located
-    ensures fault { result.fault ≡ asked_fault bytes.now holder a b out }
-    ensures found { result.fault ≡ 0 → (result.heading ≡ bundle_heading bytes.now) × (result.file ≡ file_of bytes.now holder) }
+// The file of a holder, in a bundle that has the places a to b - 1.
+fn locate(
+    bytes: &[u8],
+    holder: usize,
+    a: usize,
+    b: usize,
+    out: usize,
+) -> Result<Located, Refusal>
+    ensures fault { fault_in result ≡ asked_fault bytes.now holder a b out }
+    ensures found { IfOk result (λ l. (l.bundle.bytes.now ≡ bytes.now) × (l.file ≡ file_of bytes.now holder)
+        × (l.file < l.bundle.files) × (out ≡ l.bundle.heading.params.d) × (a ≤ b) × (b ≤ l.bundle.heading.jobs)) }
 {
-    let accepted = bundle::accept(bytes);
-    let heading = accepted.heading;
-    if accepted.fault != 0 {
-        return Located {
-            fault: accepted.fault,
-            heading,
-            file: 0,
-        };
-    }
-    let file = fetch::find_file(bytes, accepted.files, holder);
-    let fault = words::first(
-        fetch::holder_fault(file, accepted.files),
-        words::first(
-            words::length_fault(heading.params.d, out),
-            fetch::run_fault(heading, a, b),
-        ),
-    );
-    Located {
-        fault,
-        heading,
-        file,
-    }
+    let bundle = bundle::accept(bytes)?;
+    let file = fetch::find_file(&bundle, holder)?;
+    words::check_length(bundle.heading.params.d, out)?;
+    fetch::check_run(bundle.heading, a, b)?;
+    Ok(Located { bundle, file })
 }
 
 // The total of a holder's file over the places a to b - 1.
-pub fn total(bytes: &[u8], holder: usize, a: usize, b: usize, out: &mut [u64]) -> u8
-    ensures { (result ≡ total_fault bytes.now holder a b (length out.old))
+pub fn total(
+    bytes: &[u8],
+    holder: usize,
+    a: usize,
+    b: usize,
+    out: &mut [u64],
+) -> Result<(), Refusal>
+    ensures { (fault_in result ≡ total_fault bytes.now holder a b (length out.old))
         × (out.new ≡ total_words bytes.now holder a b out.old) }
 {
-    let found = locate(bytes, holder, a, b, out.len());
-    if found.fault != 0 {
-        return found.fault;
-    }
-    let h = found.heading;
+    let Located { bundle, file } = locate(bytes, holder, a, b, out.len())?;
+    let p = bundle.heading.params;
     let mut sum = [0u64; 6];
-    let seen = add_run(bytes, h, found.file, a, b, &mut sum);
-    if !words::in_width(h.params.k, seen) {
-        return words::WIDE_WORD;
-    }
-    ring::store(h.params.d, out, 0, sum);
-    0
+    let seen = add_run(&bundle, file, a, b, &mut sum);
+    words::unless(words::in_width(p.k, seen), Refusal::WideWord)?;
+    ring::store(p.d, out, 0, sum);
+    Ok(())
 }
 
 // The same total, added to the lent element. The pass adds before all words of the run are seen: where one is wide, the run is taken off again.
-pub fn add_total(bytes: &[u8], holder: usize, a: usize, b: usize, running: &mut [u64]) -> u8
-    ensures { (result ≡ add_total_fault bytes.now holder a b running.old)
+pub fn add_total(
+    bytes: &[u8],
+    holder: usize,
+    a: usize,
+    b: usize,
+    running: &mut [u64],
+) -> Result<(), Refusal>
+    ensures { (fault_in result ≡ add_total_fault bytes.now holder a b running.old)
         × (running.new ≡ add_total_words bytes.now holder a b running.old) }
 {
-    let found = locate(bytes, holder, a, b, running.len());
-    if found.fault != 0 {
-        return found.fault;
-    }
-    let h = found.heading;
-    let k = h.params.k;
-    if !words::all_in_width(k, running) {
-        return words::WIDE_WORD;
-    }
-    let f = found.file;
-    let seen = add_run(bytes, h, f, a, b, running);
+    let Located { bundle, file } = locate(bytes, holder, a, b, running.len())?;
+    let k = bundle.heading.params.k;
+    words::check_width(k, running)?;
+    let seen = add_run(&bundle, file, a, b, running);
     if !words::in_width(k, seen) {
-        take_run(bytes, h, f, a, b, running);
-        return words::WIDE_WORD;
+        take_run(&bundle, file, a, b, running);
+        return Err(Refusal::WideWord);
     }
-    0
+    Ok(())
 }

@@ -46,7 +46,7 @@ impl Refusal {
 }
 
 // The parameters of an archive (paper 01: a book): bits of a word, words of an element, holders, degree.
-#[derive(Clone, Copy)]
+#[derive(Clone, Copy, Debug, PartialEq, Eq)]
 pub struct Params {
     pub k: u64,
     pub d: usize,

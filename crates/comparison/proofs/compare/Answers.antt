@@ -2,7 +2,7 @@
 use native.Mathlib.Omega.{arith}
 use mathlib.Core.Path.{sym, ◌∙◌, ap}
 use lib.Count.{count_trailing_zeros, trailing_le}
-use Rattle.comparison.specs.declared.Comparison.TheVariants.{Lowest}
+use Rattle.std.specs.declared.option.Option.TheVariants.{Some}
 use Rattle.comparison.proofs.Compared.{compared-none, compared-some}
 use Rattle.comparison.proofs.compare.Goals as goal
 
@@ -18,4 +18,4 @@ pub returns : goal.returns
 returns c =
     let a = c.args in
     let e = c.gap-bits.ensures in
-    ap (λ n. Lowest (count_trailing_zeros 64 n)) e ∙ sym (compared-some a.share a.value (λ z. c.if-bits-eq0.false (e ∙ z)))
+    ap (λ n. Some (count_trailing_zeros 64 n)) e ∙ sym (compared-some a.share a.value (λ z. c.if-bits-eq0.false (e ∙ z)))
