@@ -1,44 +1,40 @@
 // The calls on lent elements: sum, product and inverse.
 #![tactic(auto)]
 
-ghost use Rattle.std.specs.Prelude.{◌≡◌, ◌≤◌, length};
-ghost use Rattle.words.specs.Refusal.{kept};
+ghost use Rattle.std.specs.Prelude.{◌≡◌, ◌≤◌, true, length, OnOk};
+ghost use Rattle.words.specs.Params.{params_ok};
+ghost use Rattle.words.specs.Refusal.{fault_in, kept};
 ghost use Rattle.galois.specs.Element.{sum, lower, product, inverse};
 ghost use Rattle.arithmetic.specs.Calls.{operand_fault, operands_fault};
 
-use words::Params;
+use words::{Params, Refusal};
 
-// The fault of a call with two operands and an output of n words.
-fn operands_fault(p: Params, a: &[u64], b: &[u64], n: usize) -> u8
-    ensures { result ≡ operands_fault p a.now b.now n }
+// Tests what is lent to a call with two operands and an output of n words. Words are read only where there are as many as there should be.
+#[tactic(auto, using(words::proofs::Refusals::refusals), unfolding(crate::specs::Calls::operands_fault))]
+fn check_operands(p: Params, a: &[u64], b: &[u64], n: usize) -> Result<(), Refusal>
+    ensures fault { fault_in result ≡ operands_fault p a.now b.now n }
+    ensures ok { OnOk result ((params_ok p ≡ true) × (length a.now ≡ p.d) × (length b.now ≡ p.d) × (n ≡ p.d)) }
 {
-    let output = words::length_fault(p.d, n);
-    let lengths = words::first(
-        words::length_fault(p.d, a.len()),
-        words::first(words::length_fault(p.d, b.len()), output),
-    );
-    // Words are read only where there are as many as there should be.
-    let fault = words::first(words::params_fault(p), lengths);
-    if fault != 0 {
-        return fault;
-    }
-    words::first(words::width_fault(p.k, a), words::width_fault(p.k, b))
+    words::check_params(p)?;
+    words::check_length(p.d, a.len())?;
+    words::check_length(p.d, b.len())?;
+    words::check_length(p.d, n)?;
+    words::check_width(p.k, a)?;
+    words::check_width(p.k, b)
 }
 
 // The sum of two lent elements.
-pub fn add(p: Params, a: &[u64], b: &[u64], out: &mut [u64]) -> u8
-    ensures { (result ≡ operands_fault p a.now b.now (length out.old))
+#[tactic(auto, using(words::proofs::Refusals::refusals))]
+pub fn add(p: Params, a: &[u64], b: &[u64], out: &mut [u64]) -> Result<(), Refusal>
+    ensures { (fault_in result ≡ operands_fault p a.now b.now (length out.old))
         × (out.new ≡ kept (operands_fault p a.now b.now (length out.old))
         out.old (sum p.k a.now b.now)) }
 {
-    let fault = operands_fault(p, a, b, out.len());
-    if fault != 0 {
-        return fault;
-    }
+    check_operands(p, a, b, out.len())?;
     let x = ring::load(p.d, a, 0);
     let y = ring::load(p.d, b, 0);
     ring::store(p.d, out, 0, ring::sum(p.k, x, y));
-    0
+    Ok(())
 }
 
 // The product of two elements of d words, into a list of as many.
@@ -66,30 +62,26 @@ fn store_product(k: u64, d: usize, a: &[u64], b: &[u64], out: &mut [u64])
 }
 
 // The product of two lent elements.
-pub fn multiply(p: Params, a: &[u64], b: &[u64], out: &mut [u64]) -> u8
-    ensures { (result ≡ operands_fault p a.now b.now (length out.old))
+#[tactic(auto, using(words::proofs::Refusals::refusals))]
+pub fn multiply(p: Params, a: &[u64], b: &[u64], out: &mut [u64]) -> Result<(), Refusal>
+    ensures { (fault_in result ≡ operands_fault p a.now b.now (length out.old))
         × (out.new ≡ kept (operands_fault p a.now b.now (length out.old))
         out.old (product p.k (lower p.d) a.now b.now)) }
 {
-    let fault = operands_fault(p, a, b, out.len());
-    if fault != 0 {
-        return fault;
-    }
+    check_operands(p, a, b, out.len())?;
     store_product(p.k, p.d, a, b, out);
-    0
+    Ok(())
 }
 
 // The inverse of a lent element, or zero where it has none.
-pub fn invert(p: Params, a: &[u64], out: &mut [u64]) -> u8
-    ensures { (result ≡ operand_fault p a.now (length out.old))
+#[tactic(auto, using(words::proofs::Refusals::refusals))]
+pub fn invert(p: Params, a: &[u64], out: &mut [u64]) -> Result<(), Refusal>
+    ensures { (fault_in result ≡ operand_fault p a.now (length out.old))
         × (out.new ≡ kept (operand_fault p a.now (length out.old))
         out.old (inverse p.k p.d a.now)) }
 {
-    let fault = operands_fault(p, a, a, out.len());
-    if fault != 0 {
-        return fault;
-    }
+    check_operands(p, a, a, out.len())?;
     let x = ring::load(p.d, a, 0);
     ring::store(p.d, out, 0, ring::inverse_of(p.k, p.d, x));
-    0
+    Ok(())
 }
