@@ -1,12 +1,12 @@
 -- Reading a byte at a time: how a number goes on by a byte, how a line is scanned, and how two texts are compared, from a position on. Assumes
 -- nothing.
-use Rattle.std.proofs.Common.{◌≡◌, ℕ, suc, ◌+◌, ◌-◌, ◌*◌, ◌%◌, ◌^◌, ◌<◌, ◌≤◌, true, false, List, length, get_or, drop, ap, arith, drop_of_length-le, drop-cons, eq-eqb, ne_eqb, le-leb}
+use Rattle.std.proofs.Common.{◌≡◌, ℕ, suc, ◌+◌, ◌-◌, ◌*◌, ◌%◌, ◌^◌, ◌<◌, ◌≤◌, true, ◌&&◌, ◌==◌, eqb, List, [], ◌∷◌, length, get_or, take, drop, refl, ap, arith, drop_of_length-le, drop-cons, ne_eqb, le-leb}
+use Rattle.std.proofs.lemmas.Grind.{common_steps}
+use lib.Pointwise.{pointwise}
 use borrow.Author.Tests.{lt-leb}
 use Rattle.words.specs.declared.Signed.{Signed}
 use Rattle.words.proofs.Mod.{mods}
-use Rattle.words.proofs.Tests.{not-held}
-use Rattle.labelled.specs.Reading.{goes_on, number_from, nothing, after_line, scanned, same_text}
-use Rattle.labelled.proofs.Exact.{same-is}
+use Rattle.labelled.specs.Reading.{goes_on, number_from, after_line, same_text}
 
 -- ---- a byte
 
@@ -59,30 +59,15 @@ module _ (text : List ℕ) (i : ℕ) where
     unfolding after_line
     after-step n = rw (drop-cons text i 0 h, ne_eqb (get_or text i 0) 10 n)
 
--- five lines, each from where the one before ended
-pub five-lines : (text : List ℕ) (va vb vc vd ve : Signed) (a b c d : ℕ) → va ≡ number_from nothing text → drop a text ≡ after_line text
-    → vb ≡ number_from nothing (drop a text) → drop b text ≡ after_line (drop a text)
-    → vc ≡ number_from nothing (drop b text) → drop c text ≡ after_line (drop b text)
-    → vd ≡ number_from nothing (drop c text) → drop d text ≡ after_line (drop c text) → ve ≡ number_from nothing (drop d text)
-    → record { number = va.magnitude; sphere = vb; cylinder = vc; axis = vd; thickness = ve } ≡ scanned text
-unfolding scanned
-five-lines text va vb vc vd ve a b c d na ea nb eb nc ec nd ed ne = rw (na, nb, nc, nd, ne, ed, ec, eb, ea)
+  -- all that is left from there
+  pub left-whole : take (length text - i) (drop i text) ≡ drop i text
+  left-whole = grind (arith, common_steps)
 
 -- ---- two texts
 
-pub same-lengths : (a b : List ℕ) → (length a ≡ length b → ⊥) → same_text a b ≡ false
-same-lengths a b n = not-held (same_text a b) (λ e. n (ap length (same-is a b e)))
-
-module _ (a b : List ℕ) (i : ℕ) where
-  pub same_end : length a ≤ i → length b ≤ i → same_text (drop i a) (drop i b) ≡ true
-  unfolding same_text
-  same_end h k = rw (drop_of_length-le a {i = i} h, drop_of_length-le b {i = i} k)
-
-  module _ (h : i < length a) (k : i < length b) where
-    pub same_step : get_or a i 0 ≡ get_or b i 0 → same_text (drop i a) (drop i b) ≡ same_text (drop (suc i) a) (drop (suc i) b)
-    unfolding same_text
-    same_step e = rw (drop-cons a i 0 h, drop-cons b i 0 k, eq-eqb (get_or a i 0) (get_or b i 0) e)
-
-    pub same-other : (get_or a i 0 ≡ get_or b i 0 → ⊥) → same_text (drop i a) (drop i b) ≡ false
-    unfolding same_text
-    same-other n = rw (drop-cons a i 0 h, drop-cons b i 0 k, ne_eqb (get_or a i 0) (get_or b i 0) n)
+pub same-pointwise : (a b : List ℕ) → pointwise eqb a b ≡ same_text a b
+unfolding same_text
+same-pointwise [] [] = refl
+same-pointwise [] (d ∷ ds) = refl
+same-pointwise (c ∷ cs) [] = refl
+same-pointwise (c ∷ cs) (d ∷ ds) = ap (λ t. c == d && t) (same-pointwise cs ds)

@@ -1,16 +1,16 @@
 // The text of one lens job, five labelled lines, for the surfacing machines: written, measured and read.
 #![tactic(auto)]
 
-ghost use Rattle.std.specs.Prelude.{◌≡◌, ◌+◌, ◌≤◌, true, [], ◌∷◌, length, drop};
-ghost use Rattle.words.specs.Refusal.{kept};
+ghost use Rattle.std.specs.Prelude.{◌≡◌, ◌+◌, ◌≤◌, true, [], ◌∷◌, length, OnOk};
+ghost use Rattle.words.specs.Refusal.{fault_in, kept};
 ghost use Rattle.words.specs.Word.{all_in_width};
 ghost use Rattle.decimal.specs.Decimal.{ascii, written, signed_text, hundredths_text};
 ghost use Rattle.labelled.specs.JobText.{line_with, lines_of, lens_job, text_of, text_room};
 ghost use Rattle.labelled.specs.Reading.{goes_on, number_from, nothing, after_line, scanned};
-ghost use Rattle.labelled.specs.Reading.{in_range, job_in_range, same_text, is_text_of, word_of, words_of};
+ghost use Rattle.labelled.specs.Reading.{in_range, job_in_range, is_text_of, word_of, words_of};
 ghost use Rattle.labelled.specs.Calls.{lens_fault, words_fault, size_fault, write_fault, read_fault};
 
-use words::{Params, Signed};
+use words::{Params, Refusal, Signed};
 
 // A lens job as its text has it: what its words mean, and its number.
 #[derive(Clone, Copy)]
@@ -22,11 +22,11 @@ pub struct LensJob {
     pub thickness: Signed,
 }
 
-// The number in a line of a text, and where the next line starts.
+// The number in the first line of a text, and what follows the line.
 #[derive(Clone, Copy)]
-struct Line {
+struct Line<'a> {
     value: Signed,
-    end: usize,
+    rest: &'a [u8],
 }
 
 // Every text fits into so many bytes: the definition's text_room.
@@ -99,117 +99,89 @@ pub fn lens_job(k: u64, number: u64, words: &[u64]) -> LensJob
 fn go_on(s: Signed, c: u8) -> Signed
     ensures { result ≡ goes_on s c }
 {
-    if c == b'-' {
-        return Signed {
+    match c {
+        b'-' => Signed {
             negative: true,
             magnitude: s.magnitude,
-        };
-    }
-    if c < b'0' {
-        return s;
-    }
-    if b'9' < c {
-        return s;
-    }
-    Signed {
-        negative: s.negative,
-        magnitude: std::num::wrapping_add_u64(words::mul64(s.magnitude, 10), (c - b'0') as u64),
+        },
+        b'0'..=b'9' => Signed {
+            negative: s.negative,
+            magnitude: std::num::wrapping_add_u64(
+                words::mul64(s.magnitude, 10),
+                u64::from(c - b'0'),
+            ),
+        },
+        _ => s,
     }
 }
 
-// The number in the line that starts at a position, with no rule of how it is written.
-fn scan_line(text: &[u8], at: usize) -> Line
-    requires { at ≤ length text.now }
-    ensures { (result.value ≡ number_from nothing (drop at text.now))
-        × (drop result.end text.now ≡ after_line (drop at text.now)) × (result.end ≤ length text.now) }
+// The first line of a text, with no rule of how its number is written.
+fn scan_line(text: &[u8]) -> Line
+    ensures value { result.value ≡ number_from nothing text.now }
+    ensures rest { result.rest.now ≡ after_line text.now }
 {
     let mut value = Signed {
         negative: false,
         magnitude: 0,
     };
-    let mut i = at;
-    while i < text.len() {
-        let c = text[i];
-        i += 1;
-        if c == b'\n' {
-            return Line { value, end: i };
+    for (i, c) in text.iter().enumerate() {
+        if *c == b'\n' {
+            let rest = &text[i + 1..];
+            return Line { value, rest };
         }
-        value = go_on(value, c);
+        value = go_on(value, *c);
     }
-    Line { value, end: i }
+    let rest = &text[text.len()..];
+    Line { value, rest }
 }
 
 // The numbers in the first five lines.
+#[tactic(auto, unfolding(crate::specs::Reading::scanned))]
 fn scan(text: &[u8]) -> LensJob
     ensures { result ≡ scanned text.now }
 {
-    let a = scan_line(text, 0);
-    let b = scan_line(text, a.end);
-    let c = scan_line(text, b.end);
-    let d = scan_line(text, c.end);
-    let e = scan_line(text, d.end);
-    let number = a.value;
-    let sphere = b.value;
-    let cylinder = c.value;
-    let axis = d.value;
-    let thickness = e.value;
+    let number = scan_line(text);
+    let sphere = scan_line(number.rest);
+    let cylinder = scan_line(sphere.rest);
+    let axis = scan_line(cylinder.rest);
+    let thickness = scan_line(axis.rest);
+    let name = number.value;
     LensJob {
-        number: number.magnitude,
-        sphere,
-        cylinder,
-        axis,
-        thickness,
+        number: name.magnitude,
+        sphere: sphere.value,
+        cylinder: cylinder.value,
+        axis: axis.value,
+        thickness: thickness.value,
     }
 }
 
 // Whether a number is one that words of k bits mean: zero has no sign.
+#[tactic(auto, using(crate::proofs::Words::half_is), unfolding(crate::specs::Reading::in_range))]
 fn in_range(k: u64, s: Signed) -> bool
     requires { (1 ≤ k) × (k ≤ 64) }
     ensures { result ≡ in_range k s }
 {
     let half = 1u64 << (k - 1);
     if s.negative {
-        if s.magnitude < 1 {
-            return false;
-        }
-        return s.magnitude <= half;
+        1 <= s.magnitude && s.magnitude <= half
+    } else {
+        s.magnitude < half
     }
-    s.magnitude < half
 }
 
+#[tactic(auto, unfolding(crate::specs::Reading::job_in_range))]
 fn job_in_range(k: u64, job: LensJob) -> bool
     requires { (1 ≤ k) × (k ≤ 64) }
     ensures { result ≡ job_in_range k job }
 {
-    if !in_range(k, job.sphere) {
-        return false;
-    }
-    if !in_range(k, job.cylinder) {
-        return false;
-    }
-    if !in_range(k, job.axis) {
-        return false;
-    }
-    in_range(k, job.thickness)
-}
-
-fn same_text(a: &[u8], b: &[u8]) -> bool
-    ensures { result ≡ same_text a.now b.now }
-{
-    if a.len() != b.len() {
-        return false;
-    }
-    let mut i = 0;
-    while i < a.len() {
-        if a[i] != b[i] {
-            return false;
-        }
-        i += 1;
-    }
-    true
+    in_range(k, job.sphere)
+        && in_range(k, job.cylinder)
+        && in_range(k, job.axis)
+        && in_range(k, job.thickness)
 }
 
 // Whether a text is what a job in range is written as.
+#[tactic(auto, unfolding(crate::specs::Reading::is_text_of))]
 fn is_text_of(k: u64, text: &[u8], job: LensJob) -> bool
     requires { (1 ≤ k) × (k ≤ 64) }
     ensures { result ≡ is_text_of k text.now job }
@@ -219,7 +191,7 @@ fn is_text_of(k: u64, text: &[u8], job: LensJob) -> bool
     }
     let mut room = [0u8; ROOM];
     let n = put_job(&mut room, job);
-    same_text(text, &room[..n])
+    text == &room[..n]
 }
 
 // The word that means a number in range.
@@ -246,67 +218,67 @@ fn put_words(k: u64, job: LensJob, out: &mut [u64])
 
 // ---- the calls
 
-// Whether a book is one whose jobs have a text.
-fn lens_fault(p: Params) -> u8
-    ensures { result ≡ lens_fault p }
+// Tests whether a book is one whose jobs have a text.
+#[tactic(auto, using(words::proofs::Refusals::refusals), unfolding(crate::specs::Calls::lens_fault))]
+fn check_lens(p: Params) -> Result<(), Refusal>
+    ensures fault { fault_in result ≡ lens_fault p }
+    ensures ok { OnOk result ((1 ≤ p.k) × (p.k ≤ 64)) }
 {
-    words::first(
-        words::params_fault(p),
-        words::unless(p.d == 4, words::PARAMETERS),
-    )
+    words::check_params(p)?;
+    words::unless(p.d == 4, Refusal::Parameters)
 }
 
-// Whether four words in width are lent: a list of another length is not read.
-fn words_fault(k: u64, words: &[u64]) -> u8
-    ensures { result ≡ words_fault k words.now }
+// Tests four words in width: a list of another length is not read.
+#[tactic(auto, using(words::proofs::Refusals::refusals), unfolding(crate::specs::Calls::words_fault))]
+fn check_words(k: u64, job: &[u64]) -> Result<(), Refusal>
+    ensures fault { fault_in result ≡ words_fault k job.now }
+    ensures ok { OnOk result ((length job.now ≡ 4) × (all_in_width k job.now ≡ true)) }
 {
-    if words.len() != 4 {
-        return words::LENGTH;
-    }
-    words::width_fault(k, words)
+    words::check_length(4, job.len())?;
+    words::check_width(k, job)
 }
 
 // The length of a job's text, into an output of one word.
-pub fn text_size(p: Params, number: u64, words: &[u64], size: &mut [u64]) -> u8
-    ensures { (result ≡ size_fault p words.now (length size.old))
+#[tactic(auto, using(words::proofs::Refusals::refusals), unfolding(crate::specs::Calls::size_fault, crate::specs::JobText::text_of))]
+pub fn text_size(p: Params, number: u64, words: &[u64], size: &mut [u64]) -> Result<(), Refusal>
+    ensures { (fault_in result ≡ size_fault p words.now (length size.old))
         × (size.new ≡ kept (size_fault p words.now (length size.old)) size.old
         (length (text_of p.k number words.now) ∷ [])) }
 {
-    let fault = words::first(
-        lens_fault(p),
-        words::first(words::length_fault(1, size.len()), words_fault(p.k, words)),
-    );
-    if fault != 0 {
-        return fault;
-    }
+    check_lens(p)?;
+    words::check_length(1, size.len())?;
+    check_words(p.k, words)?;
     let mut room = [0u8; ROOM];
     let n = put_job(&mut room, lens_job(p.k, number, words));
     size[0] = n as u64;
-    0
+    Ok(())
 }
 
 // A job's text, into an output of its length.
-pub fn write_text(p: Params, number: u64, words: &[u64], out: &mut [u8]) -> u8
-    ensures { (result ≡ write_fault p number words.now (length out.old))
+#[tactic(auto, using(words::proofs::Refusals::refusals), unfolding(crate::specs::Calls::write_fault, crate::specs::JobText::text_of))]
+pub fn write_text(p: Params, number: u64, words: &[u64], out: &mut [u8]) -> Result<(), Refusal>
+    ensures { (fault_in result ≡ write_fault p number words.now (length out.old))
         × (out.new ≡ kept (write_fault p number words.now (length out.old)) out.old
         (text_of p.k number words.now)) }
 {
-    let fault = words::first(lens_fault(p), words_fault(p.k, words));
-    if fault != 0 {
-        return fault;
-    }
+    check_lens(p)?;
+    check_words(p.k, words)?;
     let mut room = [0u8; ROOM];
     let n = put_job(&mut room, lens_job(p.k, number, words));
-    if out.len() != n {
-        return words::LENGTH;
-    }
-    decimal::put_bytes(out, 0, &room[..n]);
-    0
+    words::check_length(n, out.len())?;
+    out.copy_from_slice(&room[..n]);
+    Ok(())
 }
 
 // The number and the words whose text it is, into outputs of one word and of four.
-pub fn read_text(p: Params, text: &[u8], number: &mut [u64], words: &mut [u64]) -> u8
-    ensures fault { result ≡ read_fault p text.now (length number.old) (length words.old) }
+#[tactic(auto, using(words::proofs::Refusals::refusals), unfolding(crate::specs::Calls::read_fault))]
+pub fn read_text(
+    p: Params,
+    text: &[u8],
+    number: &mut [u64],
+    words: &mut [u64],
+) -> Result<(), Refusal>
+    ensures fault { fault_in result ≡ read_fault p text.now (length number.old) (length words.old) }
     ensures number { number.new
         ≡ kept (read_fault p text.now (length number.old) (length words.old)) number.old
         ((scanned text.now).number ∷ []) }
@@ -314,21 +286,12 @@ pub fn read_text(p: Params, text: &[u8], number: &mut [u64], words: &mut [u64]) 
         ≡ kept (read_fault p text.now (length number.old) (length words.old)) words.old
         (words_of p.k (scanned text.now)) }
 {
-    let fault = words::first(
-        lens_fault(p),
-        words::first(
-            words::length_fault(1, number.len()),
-            words::length_fault(4, words.len()),
-        ),
-    );
-    if fault != 0 {
-        return fault;
-    }
+    check_lens(p)?;
+    words::check_length(1, number.len())?;
+    words::check_length(4, words.len())?;
     let job = scan(text);
-    if !is_text_of(p.k, text, job) {
-        return words::TEXT;
-    }
+    words::unless(is_text_of(p.k, text, job), Refusal::Text)?;
     number[0] = job.number;
     put_words(p.k, job, words);
-    0
+    Ok(())
 }
