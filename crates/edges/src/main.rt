@@ -7,17 +7,11 @@
 
 use std::io;
 use std::io::Write;
-use words::Params;
+use words::{Params, Refusal};
 
 // The signed reading of a word; nothing where the word is not in width.
 fn reading<W: Write>(out: &mut W, k: u64, w: u64) -> io::Result<()> {
-    if k < 1 {
-        return Ok(());
-    }
-    if 64 < k {
-        return Ok(());
-    }
-    if !words::in_width(k, w) {
+    if k < 1 || 64 < k || !words::in_width(k, w) {
         return Ok(());
     }
     let s = words::read_signed(k, w);
@@ -29,15 +23,13 @@ fn reading<W: Write>(out: &mut W, k: u64, w: u64) -> io::Result<()> {
     writeln!(out, "{magnitude}")
 }
 
-// The call of a name: its number.
-fn call(name: u8, p: Params, a: &[u64], b: &[u64], out: &mut [u64]) -> u8 {
-    if name == b'a' {
-        return arithmetic::add(p, a, b, out);
+// The call of a name.
+fn call(name: u8, p: Params, a: &[u64], b: &[u64], out: &mut [u64]) -> Result<(), Refusal> {
+    match name {
+        b'a' => arithmetic::add(p, a, b, out),
+        b'm' => arithmetic::multiply(p, a, b, out),
+        _ => arithmetic::invert(p, a, out),
     }
-    if name == b'm' {
-        return arithmetic::multiply(p, a, b, out);
-    }
-    arithmetic::invert(p, a, out)
 }
 
 fn answer<W: Write>(
@@ -48,8 +40,8 @@ fn answer<W: Write>(
     b: &[u64],
     out: &mut [u64],
 ) -> io::Result<()> {
-    let number = call(name, p, a, b, out);
-    cases::print_number(to, number as u64)?;
+    let number = words::fault_number(call(name, p, a, b, out));
+    cases::print_number(to, u64::from(number))?;
     cases::print_words(to, out)
 }
 

@@ -15,15 +15,15 @@ fn deal<W: Write>(
     coefficients: &[u64],
     out: &mut [u64],
 ) -> io::Result<()> {
-    let fault = sharing::deal(p, job, coefficients, out);
-    cases::print_number(to, fault as u64)?;
+    let fault = words::fault_number(sharing::deal(p, job, coefficients, out));
+    cases::print_number(to, u64::from(fault))?;
     cases::print_words(to, out)
 }
 
 // Prints a space and a number for each position.
 fn print_positions<W: Write>(to: &mut W, lowest: &[u8]) -> io::Result<()> {
     for position in lowest {
-        cases::print_number(to, *position as u64)?;
+        cases::print_number(to, u64::from(*position))?;
     }
     Ok(())
 }
@@ -38,8 +38,8 @@ fn open<W: Write>(
 ) -> io::Result<()> {
     let mut wrong = [0u64; 1];
     let mut lowest = [7u8; 64];
-    let fault = sharing::open_shares(p, holders, shares, e, out, &mut wrong, &mut lowest);
-    cases::print_number(to, fault as u64)?;
+    let opened = sharing::open_shares(p, holders, shares, e, out, &mut wrong, &mut lowest);
+    cases::print_number(to, u64::from(words::fault_number(opened)))?;
     cases::print_number(to, wrong[0])?;
     print_positions(to, &lowest)?;
     cases::print_words(to, out)
@@ -54,10 +54,10 @@ fn answer<W: Write>(
     e: u64,
     out: &mut [u64],
 ) -> io::Result<()> {
-    if name == b'd' {
-        return deal(to, p, a, b, out);
+    match name {
+        b'd' => deal(to, p, a, b, out),
+        _ => open(to, p, a, b, e, out),
     }
-    open(to, p, a, b, e, out)
 }
 
 // The case of one line. 63 shares of 6 words, and one word more, have room.
