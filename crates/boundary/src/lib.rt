@@ -46,7 +46,7 @@ pub extern "C" fn yikes_add(
         × (out.new ≡ kept (operands_fault (params k d n t) a.now b.now (length out.old))
         out.old (sum k a.now b.now)) }
 {
-    arithmetic::add(Params { k, d, n, t }, a, b, out)
+    words::fault_number(arithmetic::add(Params { k, d, n, t }, a, b, out))
 }
 
 // The product of two elements: a share times an element is a share of the job times it.
@@ -64,7 +64,7 @@ pub extern "C" fn yikes_scale(
         × (out.new ≡ kept (operands_fault (params k d n t) a.now b.now (length out.old))
         out.old (product k (lower d) a.now b.now)) }
 {
-    arithmetic::multiply(Params { k, d, n, t }, a, b, out)
+    words::fault_number(arithmetic::multiply(Params { k, d, n, t }, a, b, out))
 }
 
 // The inverse of an element, or zero where it has none.
@@ -81,7 +81,7 @@ pub extern "C" fn yikes_invert(
         × (out.new ≡ kept (operand_fault (params k d n t) a.now (length out.old))
         out.old (inverse k d a.now)) }
 {
-    arithmetic::invert(Params { k, d, n, t }, a, out)
+    words::fault_number(arithmetic::invert(Params { k, d, n, t }, a, out))
 }
 
 // A job dealt to n holders, with t coefficients that the caller draws at random.
@@ -99,7 +99,7 @@ pub extern "C" fn yikes_deal(
         × (out.new ≡ kept (deal_fault (params k d n t) job.now coefficients.now (length out.old))
         out.old (dealt (params k d n t) job.now coefficients.now)) }
 {
-    sharing::deal(Params { k, d, n, t }, job, coefficients, out)
+    words::fault_number(sharing::deal(Params { k, d, n, t }, job, coefficients, out))
 }
 
 // A job opened from lent shares, with the set of the wrong holders as a second output of one word, and their positions as a third of 64 bytes.
@@ -127,7 +127,7 @@ pub extern "C" fn yikes_open(
         (opening (params k d n t) holders.now shares.now e (length out.old)
         (length wrong.old) (length lowest.old)) }
 {
-    sharing::open_shares(
+    words::fault_number(sharing::open_shares(
         Params { k, d, n, t },
         holders,
         shares,
@@ -135,7 +135,7 @@ pub extern "C" fn yikes_open(
         out,
         wrong,
         lowest,
-    )
+    ))
 }
 
 // The signed reading of a word, in two's complement, into an output of one word.
@@ -144,7 +144,7 @@ pub extern "C" fn yikes_signed(k: u64, w: u64, out: &mut [u64]) -> u8
     ensures { (result ≡ signed_fault k w (length out.old))
         × (out.new ≡ kept (signed_fault k w (length out.old)) out.old (twos_complement (signed_of k w) ∷ [])) }
 {
-    words::signed_into(k, w, out)
+    words::fault_number(words::signed_into(k, w, out))
 }
 
 // ---- files
@@ -166,7 +166,8 @@ pub extern "C" fn yikes_write_file(
         × (out.new ≡ kept (file_write_fault (params k d n t) holder archive numbers.now words.now out.old)
         out.old (file_bytes (file_for (params k d n t) holder archive numbers.now words.now))) }
 {
-    writer::write_file(Params { k, d, n, t }, holder, archive, numbers, words, out)
+    let params = Params { k, d, n, t };
+    words::fault_number(writer::write_file(params, holder, archive, numbers, words, out))
 }
 
 // Writes an order.
@@ -175,7 +176,7 @@ pub extern "C" fn yikes_write_order(e: u8, out: &mut [u8]) -> u8
     ensures { (result ≡ order_fault (length out.old))
         × (out.new ≡ kept (order_fault (length out.old)) out.old (order_bytes e)) }
 {
-    writer::write_order(e, out)
+    words::fault_number(writer::write_order(e, out))
 }
 
 // Writes a bundle: an order, and the files as they stand in one lent slice.
@@ -185,7 +186,7 @@ pub extern "C" fn yikes_write_bundle(e: u8, files: &[u8], out: &mut [u8]) -> u8
         × (out.new ≡ kept (bundle_write_fault e files.now (length out.old)) out.old
         (order_bytes e ++ files.now)) }
 {
-    writer::write_bundle(e, files, out)
+    words::fault_number(writer::write_bundle(e, files, out))
 }
 
 // The first fault of a file by itself, or 0 where it is accepted.
@@ -193,7 +194,7 @@ pub extern "C" fn yikes_write_bundle(e: u8, files: &[u8], out: &mut [u8]) -> u8
 pub extern "C" fn yikes_check_file(file: &[u8]) -> u8
     ensures { result ≡ file_fault file.now }
 {
-    bundle::check_file(file)
+    words::fault_number(bundle::check_file(file))
 }
 
 // What stands at a cursor, a record or the end, its kind, and its body as offset and length: an output of four words.
@@ -203,7 +204,7 @@ pub extern "C" fn yikes_read(bytes: &[u8], cursor: usize, step: &mut [u64]) -> u
         × (step.new ≡ kept (step_fault bytes.now cursor (length step.old)) step.old
         (step_of bytes.now cursor)) }
 {
-    describe::read_step(bytes, cursor, step)
+    words::fault_number(describe::read_step(bytes, cursor, step))
 }
 
 // ---- bundles
@@ -213,7 +214,7 @@ pub extern "C" fn yikes_read(bytes: &[u8], cursor: usize, step: &mut [u64]) -> u
 pub extern "C" fn yikes_accept(bytes: &[u8]) -> u8
     ensures { result ≡ bundle_fault bytes.now }
 {
-    bundle::bundle_fault(bytes)
+    words::fault_number(bundle::check_bundle(bytes))
 }
 
 // Allowance, parameters, archive number, jobs, files and the bytes of a file: an output of nine words.
@@ -223,7 +224,7 @@ pub extern "C" fn yikes_describe(bytes: &[u8], about: &mut [u64]) -> u8
         × (about.new ≡ kept (describe_fault bytes.now (length about.old)) about.old
         (about_of bytes.now)) }
 {
-    describe::describe(bytes, about)
+    words::fault_number(describe::describe(bytes, about))
 }
 
 // The number of the job at a place: an output of one word.
@@ -233,7 +234,7 @@ pub extern "C" fn yikes_job_number(bytes: &[u8], place: usize, number: &mut [u64
         × (number.new ≡ kept (number_fault bytes.now place (length number.old)) number.old
         (number_of bytes.now place)) }
 {
-    describe::job_number(bytes, place, number)
+    words::fault_number(describe::job_number(bytes, place, number))
 }
 
 // The holder of a file, and the file as its offset in the bundle and its length: an output of three words.
@@ -243,7 +244,7 @@ pub extern "C" fn yikes_file(bytes: &[u8], index: usize, part: &mut [u64]) -> u8
         × (part.new ≡ kept (file_part_fault bytes.now index (length part.old)) part.old
         (file_part_of bytes.now index)) }
 {
-    describe::file_part(bytes, index, part)
+    words::fault_number(describe::file_part(bytes, index, part))
 }
 
 // Opens the job at a place, with the set of the wrong holders as a second output of one word, and their positions as a third of 64 bytes.
@@ -266,7 +267,7 @@ pub extern "C" fn yikes_open_place(
         (shares_at bytes.now place) lowest.old (open_place bytes.now place (length out.old)
         (length wrong.old) (length lowest.old)) }
 {
-    archive::open_place(bytes, place, out, wrong, lowest)
+    words::fault_number(archive::open_place(bytes, place, out, wrong, lowest))
 }
 
 // Opens the sum of the jobs at the places a to b - 1, in the same way.
@@ -290,7 +291,7 @@ pub extern "C" fn yikes_open_run(
         (shares_over bytes.now a (b - a)) lowest.old (open_run bytes.now a b (length out.old)
         (length wrong.old) (length lowest.old)) }
 {
-    archive::open_run(bytes, a, b, out, wrong, lowest)
+    words::fault_number(archive::open_run(bytes, a, b, out, wrong, lowest))
 }
 
 // The total of a holder's file over the places a to b - 1.
@@ -305,7 +306,7 @@ pub extern "C" fn yikes_total(
     ensures { (result ≡ total_fault bytes.now holder a b (length out.old))
         × (out.new ≡ total_words bytes.now holder a b out.old) }
 {
-    totals::total(bytes, holder, a, b, out)
+    words::fault_number(totals::total(bytes, holder, a, b, out))
 }
 
 // The same total, added to the lent element word by word: an element of d words in width.
@@ -320,7 +321,7 @@ pub extern "C" fn yikes_add_total(
     ensures { (result ≡ add_total_fault bytes.now holder a b running.old)
         × (running.new ≡ add_total_words bytes.now holder a b running.old) }
 {
-    totals::add_total(bytes, holder, a, b, running)
+    words::fault_number(totals::add_total(bytes, holder, a, b, running))
 }
 
 // A job's body by holder and place, as its offset in the bundle and its length: an output of two words.
@@ -335,7 +336,7 @@ pub extern "C" fn yikes_fetch_body(
         × (part.new ≡ kept (part_fault bytes.now holder place (length part.old)) part.old
         (part_of bytes.now (file_of bytes.now holder) place)) }
 {
-    fetch::fetch_part(bytes, holder, place, part)
+    words::fault_number(fetch::fetch_part(bytes, holder, place, part))
 }
 
 // The number of the same fetch alone, 0 where it succeeds.
@@ -343,7 +344,7 @@ pub extern "C" fn yikes_fetch_body(
 pub extern "C" fn yikes_fetch_fault(bytes: &[u8], holder: usize, place: usize) -> u8
     ensures { result ≡ body_fault bytes.now holder place }
 {
-    fetch::fetch_body_fault(bytes, holder, place)
+    words::fault_number(fetch::body(bytes, holder, place))
 }
 
 // One line of the listing, and its length as a second output of one word.
@@ -362,7 +363,7 @@ pub extern "C" fn yikes_list_line(
         ≡ kept (line_fault bytes.now place (length line.old) (length size.old)) size.old
         (length (line_of bytes.now place) ∷ []) }
 {
-    listing::list_line(bytes, place, line, size)
+    words::fault_number(listing::list_line(bytes, place, line, size))
 }
 
 // A bundle mended: each wrong share replaced by its polynomial's value, all else as it is, into an output of the bundle's length.
@@ -371,7 +372,7 @@ pub extern "C" fn yikes_mend(bytes: &[u8], out: &mut [u8]) -> u8
     ensures { (result ≡ mend_fault bytes.now (length out.old))
         × (out.new ≡ kept (mend_fault bytes.now (length out.old)) out.old (mended bytes.now)) }
 {
-    mending::mend(bytes, out)
+    words::fault_number(mending::mend(bytes, out))
 }
 
 // ---- a desk that limits openings
@@ -382,7 +383,7 @@ pub extern "C" fn yikes_desk_start(desk: &mut [u64], q: u64) -> u8
     ensures { (result ≡ lent_start_fault desk.old q)
         × (desk.new ≡ kept (lent_start_fault desk.old q) desk.old (q ∷ 0 ∷ [])) }
 {
-    desk::start_lent(desk, q)
+    words::fault_number(desk::start_lent(desk, q))
 }
 
 // Opens the job at a place as `yikes_open_place` does, where the record's count is below its allowance; one that gives words is counted.
@@ -408,7 +409,7 @@ pub extern "C" fn yikes_desk_open(
         (shares_at bytes.now place) lowest.old (lent_opening desk.old bytes.now place
         (length out.old) (length wrong.old) (length lowest.old)) }
 {
-    desk::open_lent(desk, bytes, place, out, wrong, lowest)
+    words::fault_number(desk::open_lent(desk, bytes, place, out, wrong, lowest))
 }
 
 // ---- job text
@@ -428,7 +429,7 @@ pub extern "C" fn yikes_text_size(
         × (size.new ≡ kept (size_fault (params k d n t) words.now (length size.old)) size.old
         (length (text_of k number words.now) ∷ [])) }
 {
-    labelled::text_size(Params { k, d, n, t }, number, words, size)
+    words::fault_number(labelled::text_size(Params { k, d, n, t }, number, words, size))
 }
 
 // A job's text, into an output of its length.
@@ -446,7 +447,7 @@ pub extern "C" fn yikes_write_text(
         × (out.new ≡ kept (write_fault (params k d n t) number words.now (length out.old)) out.old
         (text_of k number words.now)) }
 {
-    labelled::write_text(Params { k, d, n, t }, number, words, out)
+    words::fault_number(labelled::write_text(Params { k, d, n, t }, number, words, out))
 }
 
 // The number and the words whose text it is, into outputs of one word and of four.
@@ -468,5 +469,5 @@ pub extern "C" fn yikes_read_text(
         ≡ kept (read_fault (params k d n t) text.now (length number.old) (length words.old)) words.old
         (words_of k (scanned text.now)) }
 {
-    labelled::read_text(Params { k, d, n, t }, text, number, words)
+    words::fault_number(labelled::read_text(Params { k, d, n, t }, text, number, words))
 }

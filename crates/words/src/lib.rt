@@ -183,11 +183,11 @@ pub fn read_signed(k: u64, w: u64) -> Signed
 // ---- refusals: each test that a call makes gives its own, and `?` hands out the first
 
 // The number of a call that may decline: 0 where it does not.
-pub fn fault_number(outcome: Result<(), Refusal>) -> u8
+pub fn fault_number<T: Copy>(outcome: Result<T, Refusal>) -> u8
     ensures { result ≡ fault_in outcome }
 {
     match outcome {
-        Ok(()) => 0,
+        Ok(_) => 0,
         Err(refusal) => refusal.number(),
     }
 }

@@ -1,5 +1,5 @@
 -- `words::all_in_width` meets its contract: the words seen, taken together, and the rest. Assumes nothing.
-use Rattle.std.proofs.Common.{sym, ◌∙◌, arith, rules}
+use Rattle.std.proofs.Common.{sym, ◌∙◌, arith}
 use Rattle.words.proofs.Width.{none_seen, one_seen, all_seen}
 use Rattle.words.proofs.all_in_width.Goals as goal
 
