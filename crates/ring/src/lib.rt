@@ -148,9 +148,7 @@ fn horner_by_words(d: usize, low: [u64; 6], a: [u64; 6], b: [u64; 6]) -> [u64; 6
     ensures { result ≡ held d (product 64 (lower d) (take d a) (take d b)) }
 {
     let mut r = [0u64; 6];
-    let mut i = d;
-    while 0 < i {
-        i -= 1;
+    for i in (0..d).rev() {
         let s = shift(d, low, r);
         r = add_scaled(a[i], s, b);
     }
@@ -187,13 +185,11 @@ fn sum_by_bits(d: usize, low: [u64; 6], a: [u64; 6], i: u64) -> [u64; 6]
 {
     let mut r = add_scaled(i % 2, [0; 6], a);
     let mut p = a;
-    let mut j = 1;
-    while j < d {
+    for j in 1..d {
         let q = shift(d, low, p);
         p = q;
         let s = add_picked((i >> j) % 2, r, p);
         r = s;
-        j += 1;
     }
     keep(d, r)
 }
@@ -226,11 +222,9 @@ fn fermat_by(d: usize, a: [u64; 6]) -> [u64; 6]
     ensures { reduce 1 result ≡ held d (fermat d (take d a) (d - 2)) }
 {
     let mut y = product64(d, a, a);
-    let mut i = 2;
-    while i < d {
+    for _ in 2..d {
         let z = product64(d, y, a);
         y = product64(d, z, z);
-        i += 1;
     }
     y
 }
@@ -294,11 +288,7 @@ fn load_by(d: usize, s: &[u64], at: usize) -> [u64; 6]
     ensures { result ≡ held d (drop at s.now) }
 {
     let mut r = [0u64; 6];
-    let mut j = 0;
-    while j < d {
-        r[j] = s[at + j];
-        j += 1;
-    }
+    r[..d].copy_from_slice(&s[at..at + d]);
     r
 }
 
@@ -321,11 +311,7 @@ fn store_by(d: usize, out: &mut [u64], at: usize, e: [u64; 6])
     requires { (d ≤ 6) × (at + d ≤ length out.old) }
     ensures { out.new ≡ take at out.old ++ take d e ++ drop (at + d) out.old }
 {
-    let mut j = 0;
-    while j < d {
-        out[at + j] = e[j];
-        j += 1;
-    }
+    out[at..at + d].copy_from_slice(&e[..d]);
 }
 
 // The same, with code for each d.

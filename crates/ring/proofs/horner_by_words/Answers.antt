@@ -1,5 +1,4 @@
 -- `ring::horner_by_words` meets its contract: a turn of the loop takes one word more of the first factor. Assumes nothing.
-use borrow.Author.Rules.{rules}
 use native.Mathlib.Omega.{arith}
 use mathlib.Core.Path.{◌≡◌, refl, sym, ◌∙◌}
 use Prim.Native.Nat.{◌-◌}
@@ -18,7 +17,7 @@ loop-i-init c =
     let d = c.args.d in
     let h₆ : length c.args.a ≡ 6 = omega (arith, c.well_formed) in
     let ha : length (take d c.args.a) ≡ d = length-take-le d c.args.a (omega arith) in
-    (search rules, refl, no-turn 64 d (take c.args.d c.args.a) (take d c.args.b) (omega arith) (omega arith) ha)
+    (refl, no-turn 64 d (take c.args.d c.args.a) (take d c.args.b) (omega arith) (omega arith) ha)
 
 pub loop-i-preserved : goal.loop-i-preserved
 loop-i-preserved c =
@@ -34,11 +33,10 @@ loop-i-preserved c =
     let h₆ : length l.args.a ≡ 6 = omega (arith, l.well_formed) in
     let ha : length a ≡ d = length-take-le d l.args.a (omega arith) in
     let c₁ = get_or l.args.a (i - 1) 0 in (
-      omega arith,
-      rw (c.add_scaled-r.ensures, c.shift-s.ensures) (turn-length (plus_w 64 c₁) (down_w 64 (get_or r (d - 1) 0)) r low b l.loop-i.invariant.1 hl hb),
+      rw (c.add_scaled-r.ensures, c.shift-s.ensures) (turn-length (plus_w 64 c₁) (down_w 64 (get_or r (d - 1) 0)) r low b l.loop-i.invariant.0 hl hb),
       rw (c.add_scaled-r.ensures, c.shift-s.ensures, l.requires.1)
           (turn 64 d r a b i c₁ (omega arith) (omega arith) (omega arith) (omega arith) (omega arith)
-          (sym (get_or-take d l.args.a (i - 1) 0 (omega arith))) l.loop-i.invariant.2),
+          (sym (get_or-take d l.args.a (i - 1) 0 (omega arith))) l.loop-i.invariant.1),
     )
 
 pub returns : goal.returns
@@ -51,6 +49,6 @@ returns c =
     let e : l.loop-i.i ≡ 0 = omega arith in
     let a = take d l.args.a in
     let p = product 64 (lower d) a (take d b) in
-    let q : take d l.loop-i.r ≡ p = rw e at l.loop-i.invariant.2 in
+    let q : take d l.loop-i.r ≡ p = rw e at l.loop-i.invariant.1 in
     let hp : length p ≡ d = length-product 64 (lower d) a (take d b) (length-take-le d b (omega arith) ∙ sym hl) ∙ hl in
     c.keep.ensures ∙ held_same d l.loop-i.r p q hp

@@ -1,5 +1,4 @@
 -- `ring::sum_by_bits` meets its contract: a turn of the loop takes one bit more of the holder. Assumes nothing.
-use borrow.Author.Rules.{rules}
 use native.Mathlib.Omega.{arith}
 use mathlib.Core.Path.{◌≡◌, refl, ◌∙◌, sym, ap}
 use Prim.Native.Nat.{ℕ, ◌+◌, ◌-◌, ◌/◌, ◌%◌, ◌^◌}
@@ -27,7 +26,6 @@ loop-j-init c =
     let ha : length a ≡ 6 = omega (arith, c.well_formed) in
     let hp : length (point d i) ≡ d = length-point d i in
     let e : i % 2 ≡ get_or (point d i) 0 0 = sym (point_at d i 0 (omega arith) ∙ ap (λ (y : ℕ). y % 2) (div-one i)) in (
-      search rules,
       ha,
       refl,
       rw c.add_scaled-r.ensures (rise-first 64 d (point d i) a (i % 2) (omega arith) (omega arith) (omega arith) (omega arith) e),
@@ -49,13 +47,12 @@ loop-j-preserved c =
     let hp : length (point d i) ≡ d = length-point d i in
     let e : j + 1 - 1 ≡ j = omega arith in
     let x : take d q ≡ power_x 64 (lower d) j b =
-    rw (c.shift-q.ensures, l.requires.1) (power-next 64 d p b j (omega arith) (omega arith) (omega arith) (omega arith) l.loop-j.invariant.2) in (
-      search rules,
-      rw c.shift-q.ensures (ap length (zip-shifted (down_w 64 (get_or p (d - 1) 0)) p low l.loop-j.invariant.1 hl)),
+    rw (c.shift-q.ensures, l.requires.1) (power-next 64 d p b j (omega arith) (omega arith) (omega arith) (omega arith) l.loop-j.invariant.1) in (
+      rw c.shift-q.ensures (ap length (zip-shifted (down_w 64 (get_or p (d - 1) 0)) p low l.loop-j.invariant.0 hl)),
       rw e x,
       rw (c.add_picked-s.ensures, add-one)
           (rise 64 d l.loop-j.r q (point d i) b j (i / 2 ^ j % 2) (omega arith) (omega arith) hb (omega arith)
-          (sym (point_at d i j (omega arith))) x l.loop-j.invariant.3),
+          (sym (point_at d i j (omega arith))) x l.loop-j.invariant.2),
     )
 
 pub returns : goal.returns
@@ -69,6 +66,6 @@ returns c =
     let e : l.loop-j.j ≡ d = omega arith in
     let a = point d l.args.i in
     let p = product 64 (lower d) a b in
-    let q : take d l.loop-j.r ≡ p = rw (e, take_all d a (le_of_eq (length-point d l.args.i))) at l.loop-j.invariant.3 in
+    let q : take d l.loop-j.r ≡ p = rw (e, take_all d a (le_of_eq (length-point d l.args.i))) at l.loop-j.invariant.2 in
     let hp : length p ≡ d = length-product 64 (lower d) a b (hb ∙ sym hl) ∙ hl in
     c.keep.ensures ∙ held_same d l.loop-j.r p q hp
