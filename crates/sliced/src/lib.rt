@@ -68,9 +68,7 @@ fn times_by(d: usize, low: [u64; 6], a: [u64; 6], b: [u64; 6]) -> [u64; 6]
     ensures { result ≡ times_lanes d a b }
 {
     let mut r = [0u64; 6];
-    let mut i = d;
-    while 0 < i {
-        i -= 1;
+    for i in (0..d).rev() {
         let s = shift(d, low, r);
         r = add_scaled(a[i], s, b);
     }
@@ -182,9 +180,7 @@ pub fn slice(v: u64, m: usize, ys: &[[u64; 6]; 64]) -> [u64; 6]
     ensures { (result ≡ slice_of v m ys.now) × (length result ≡ 6) }
 {
     let mut r = [0u64; 6];
-    let mut i = m;
-    while 0 < i {
-        i -= 1;
+    for i in (0..m).rev() {
         let s = prepend(bits_of(ys[i], v), r);
         r = s;
     }
@@ -209,9 +205,7 @@ pub fn points(m: usize, hs: &[u64; 63]) -> [u64; 6]
     ensures { result ≡ points_of m hs.now }
 {
     let mut r = [0u64; 6];
-    let mut i = m;
-    while 0 < i {
-        i -= 1;
+    for i in (0..m).rev() {
         let s = prepend(point(hs[i]), r);
         r = s;
     }

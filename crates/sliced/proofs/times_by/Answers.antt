@@ -1,5 +1,4 @@
 -- `sliced::times_by` meets its contract: a turn of the loop takes one word more of the first factor. Assumes nothing.
-use borrow.Author.Rules.{rules}
 use native.Mathlib.Omega.{arith}
 use mathlib.Core.Path.{◌≡◌, ◌∙◌, ap}
 use lib.ListN.{length, take}
@@ -10,22 +9,20 @@ use Rattle.sliced.proofs.times_by.Goals as goal
 use Rattle.sliced.proofs.times_by.Goals.{At-loop-i}
 
 pub loop-i-init : goal.loop-i-init
-loop-i-init c = (search rules, horner-start c.args.d c.args.a c.args.b)
+loop-i-init c = horner-start c.args.d c.args.a c.args.b
 
 pub loop-i-preserved : goal.loop-i-preserved
 loop-i-preserved c =
     let l = (goal.at.loop-i-preserved c).At-loop-i in
     let a = l.args in
-    let ha : length a.a ≡ 6 = omega (arith, l.well_formed) in (
-      omega arith,
-      rw (c.add_scaled-r.ensures, c.shift-s.ensures, l.requires.1, l.loop-i.invariant.1)
-          (horner-turn a.d a.a a.b l.loop-i.i (omega arith) (omega arith) (omega arith)),
-    )
+    let ha : length a.a ≡ 6 = omega (arith, l.well_formed) in
+    rw (c.add_scaled-r.ensures, c.shift-s.ensures, l.requires.1, l.loop-i.invariant)
+    (horner-turn a.d a.a a.b l.loop-i.i (omega arith) (omega arith) (omega arith))
 
 pub returns : goal.returns
 unfolding times_lanes
 returns c =
     let l = (goal.at.returns c).At-loop-i in
     let e : l.loop-i.i ≡ 0 = omega arith in
-    let q : l.loop-i.r ≡ horner l.args.d (take l.args.d l.args.a) l.args.b = rw e at l.loop-i.invariant.1 in
+    let q : l.loop-i.r ≡ horner l.args.d (take l.args.d l.args.a) l.args.b = rw e at l.loop-i.invariant in
     c.keep.ensures ∙ ap (held l.args.d) q

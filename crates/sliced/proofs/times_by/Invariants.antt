@@ -1,12 +1,8 @@
 -- `sliced::times_by` meets its contract: a turn of the loop takes one word more of the first factor. Assumes nothing.
 use mathlib.Core.Path.{◌≡◌}
-use Prim.Native.Nat.{◌≤◌}
 use lib.ListN.{take, drop}
 use Rattle.sliced.specs.Lane.{horner}
 use Rattle.sliced.proofs.times_by.Given as goal
 
 abbrev pub invariant-loop-i : goal.invariant-loop-i
-invariant-loop-i l = (l.i ≤ l.d) × (l.r ≡ horner l.d (drop l.i (take l.d l.a)) l.b)
-
-abbrev pub decreases-loop-i : goal.decreases-loop-i
-decreases-loop-i l = l.i
+invariant-loop-i l = l.r ≡ horner l.d (drop l.i (take l.d l.a)) l.b
