@@ -15,10 +15,9 @@ fn horner(d: usize, p: &[[u64; 6]; 64], len: usize, x: u64) -> [u64; 6]
     if len == 0 {
         return [0; 6];
     }
-    let mut i = len - 1;
-    let mut r = p[i];
-    while 0 < i {
-        i -= 1;
+    let last = len - 1;
+    let mut r = p[last];
+    for i in (0..last).rev() {
         let s = ring::product_by_point(64, d, r, x);
         r = ring::sum(64, p[i], s);
     }
@@ -68,11 +67,9 @@ fn subtract_by(d: usize, p: &mut [[u64; 6]; 64], e: [u64; 6], q: &[[u64; 6]; 64]
     requires { ((2 ≤ d) × (d ≤ 6)) × (len ≤ 64) × Shaped p.old × Shaped q.now }
     ensures { p.new ≡ subtract_rows 64 d len p.old (take d e) q.now }
 {
-    let mut i = 0;
-    while i < len {
+    for i in 0..len {
         let v = ring::product(64, d, e, q[i]);
         p[i] = ring::keep(d, ring::difference(64, p[i], v));
-        i += 1;
     }
 }
 
@@ -96,13 +93,11 @@ fn root_by(d: usize, p: &mut [[u64; 6]; 64], x: u64, len: usize)
     ensures { p.new ≡ root_rows 64 d len (point d x) p.old }
 {
     let mut below = [0u64; 6];
-    let mut i = 0;
-    while i < len {
+    for i in 0..len {
         let c = p[i];
         let v = ring::product_by_point(64, d, c, x);
         p[i] = ring::keep(d, ring::difference(64, below, v));
         below = c;
-        i += 1;
     }
 }
 

@@ -28,7 +28,6 @@ loop-i-init c =
     let p = c.args.p.now in
     let hp : length p ≡ 64 = shaped-length p c.requires.2 in
     let hl : length (get_or p (n - 1) []) ≡ 6 = shaped_row p (n - 1) c.requires.2 (omega arith) in (
-      omega arith,
       hl,
       eval-start 64 d (omega arith) (omega arith) n p (omega arith) (point d c.args.x) (length-point d c.args.x) (omega arith) hl,
     )
@@ -44,12 +43,11 @@ loop-i-preserved c =
     let i = l.loop-i.i in
     let hp : length p ≡ 64 = shaped-length p l.requires.2 in
     let ha : length (get_or p (i - 1) []) ≡ 6 = shaped_row p (i - 1) l.requires.2 (omega arith) in (
-      omega arith,
       rw (c.sum-r.ensures, c.product_by_point-s.ensures)
-          (eval-length 64 d (omega arith) (omega arith) n p (omega arith) x (get_or p (i - 1) []) r ha l.loop-i.invariant.1),
+          (eval-length 64 d (omega arith) (omega arith) n p (omega arith) x (get_or p (i - 1) []) r ha l.loop-i.invariant.0),
       rw (c.sum-r.ensures, c.product_by_point-s.ensures)
           (eval-turn 64 d (omega arith) (omega arith) n p (omega arith) x (length-point d l.args.x) r i
-          l.loop-i.invariant.1 (omega arith) (omega arith) l.loop-i.invariant.2),
+          l.loop-i.invariant.0 (omega arith) (omega arith) l.loop-i.invariant.1),
     )
 
 pub returns : goal.returns
@@ -60,6 +58,6 @@ returns c =
     let v = value 64 d (coefs d l.args.len p) (point d l.args.x) in
     let hp : length p ≡ 64 = shaped-length p l.requires.2 in
     let e : l.loop-i.i ≡ 0 = omega arith in
-    let q : reduce 64 (take d l.loop-i.r) ≡ v = rw e at l.loop-i.invariant.2 in
+    let q : reduce 64 (take d l.loop-i.r) ≡ v = rw e at l.loop-i.invariant.1 in
     eval-end 64 d (omega arith) (omega arith) l.args.len p (omega arith) (point d l.args.x) c.keep.result l.loop-i.r v
-    c.keep.ensures (word_good c.keep.result _ c.keep.type_inv) l.loop-i.invariant.1 q
+    c.keep.ensures (word_good c.keep.result _ c.keep.type_inv) l.loop-i.invariant.0 q
