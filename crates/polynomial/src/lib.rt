@@ -78,13 +78,7 @@ fn subtract_multiple(d: usize, p: &mut [[u64; 6]; 64], e: [u64; 6], q: &[[u64; 6
     requires { ((2 ≤ d) × (d ≤ 6)) × (len ≤ 64) × Shaped p.old × Shaped q.now }
     ensures { p.new ≡ subtract_rows 64 d len p.old (take d e) q.now }
 {
-    match d {
-        2 => subtract_by(2, p, e, q, len),
-        3 => subtract_by(3, p, e, q, len),
-        4 => subtract_by(4, p, e, q, len),
-        5 => subtract_by(5, p, e, q, len),
-        _ => subtract_by(6, p, e, q, len),
-    }
+    ring::specialized!(d, subtract_by(d, p, e, q, len))
 }
 
 // p := (Z - x) p in words of 64 bits, in the first len rows, x being holder x's point.
@@ -106,13 +100,7 @@ fn root(d: usize, p: &mut [[u64; 6]; 64], x: u64, len: usize)
     requires { ((2 ≤ d) × (d ≤ 6)) × (len ≤ 64) × Shaped p.old }
     ensures { p.new ≡ root_rows 64 d len (point d x) p.old }
 {
-    match d {
-        2 => root_by(2, p, x, len),
-        3 => root_by(3, p, x, len),
-        4 => root_by(4, p, x, len),
-        5 => root_by(5, p, x, len),
-        _ => root_by(6, p, x, len),
-    }
+    ring::specialized!(d, root_by(d, p, x, len))
 }
 
 // One share more in Newton's interpolation: q goes through len shares, and nodal is the product of the Z - x over their points. After it

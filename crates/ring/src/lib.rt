@@ -16,6 +16,37 @@ const LOWER: [[u64; 6]; 7] = [
     [1, 1, 0, 0, 0, 0],
 ];
 
+// What the expression gives, whose d is 2 to 6. In each arm d is a constant, from which the compiler can make code for that d, with no loop over d
+// and no tests. A function that takes a closure stood here too: a closure with a loop is not copied into the arms, and a product took twice the
+// instructions.
+#[macro_export]
+macro_rules! specialized {
+    ($d:ident, $code:expr) => {
+        match $d {
+            2 => {
+                let $d = 2;
+                $code
+            }
+            3 => {
+                let $d = 3;
+                $code
+            }
+            4 => {
+                let $d = 4;
+                $code
+            }
+            5 => {
+                let $d = 5;
+                $code
+            }
+            _ => {
+                let $d = 6;
+                $code
+            }
+        }
+    };
+}
+
 // The row of d. A table is built anew wherever it is read, so its row is read once and handed on.
 pub fn lower_of(d: usize) -> [u64; 6]
     requires { (2 ≤ d) × (d ≤ 6) }
@@ -160,13 +191,7 @@ fn product64(d: usize, a: [u64; 6], b: [u64; 6]) -> [u64; 6]
     requires { (2 ≤ d) × (d ≤ 6) }
     ensures { result ≡ held d (product 64 (lower d) (take d a) (take d b)) }
 {
-    match d {
-        2 => horner_by_words(2, lower_of(2), a, b),
-        3 => horner_by_words(3, lower_of(3), a, b),
-        4 => horner_by_words(4, lower_of(4), a, b),
-        5 => horner_by_words(5, lower_of(5), a, b),
-        _ => horner_by_words(6, lower_of(6), a, b),
-    }
+    specialized!(d, horner_by_words(d, lower_of(d), a, b))
 }
 
 // a times b: words of 64 bits, reduced once at the end.
@@ -199,13 +224,7 @@ fn product64_by_point(d: usize, a: [u64; 6], i: u64) -> [u64; 6]
     requires { (2 ≤ d) × (d ≤ 6) }
     ensures { result ≡ held d (product 64 (lower d) (point d i) (take d a)) }
 {
-    match d {
-        2 => sum_by_bits(2, lower_of(2), a, i),
-        3 => sum_by_bits(3, lower_of(3), a, i),
-        4 => sum_by_bits(4, lower_of(4), a, i),
-        5 => sum_by_bits(5, lower_of(5), a, i),
-        _ => sum_by_bits(6, lower_of(6), a, i),
-    }
+    specialized!(d, sum_by_bits(d, lower_of(d), a, i))
 }
 
 // The point of holder i times a.
@@ -234,13 +253,7 @@ fn fermat64(d: usize, a: [u64; 6]) -> [u64; 6]
     requires { (2 ≤ d) × (d ≤ 6) }
     ensures { reduce 1 result ≡ held d (fermat d (take d a) (d - 2)) }
 {
-    match d {
-        2 => fermat_by(2, a),
-        3 => fermat_by(3, a),
-        4 => fermat_by(4, a),
-        5 => fermat_by(5, a),
-        _ => fermat_by(6, a),
-    }
+    specialized!(d, fermat_by(d, a))
 }
 
 // Newton's steps, each of which doubles the bits of the inverse that are right, from 1 to k at least; in words of 64 bits. The first factor
@@ -265,13 +278,7 @@ fn newton64(k: u64, d: usize, a: [u64; 6], start: [u64; 6]) -> [u64; 6]
     requires { (k ≤ 64) × ((2 ≤ d) × (d ≤ 6)) × (start ≡ held d start) }
     ensures { (n : ℕ) × ((k ≤ 2 ^ n) × (result ≡ held d (newtons 64 d (take d a) (take d start) n))) }
 {
-    match d {
-        2 => newton_by(k, 2, a, start),
-        3 => newton_by(k, 3, a, start),
-        4 => newton_by(k, 4, a, start),
-        5 => newton_by(k, 5, a, start),
-        _ => newton_by(k, 6, a, start),
-    }
+    specialized!(d, newton_by(k, d, a, start))
 }
 
 // The inverse, or zero for what is zero modulo two: words of 64 bits, reduced at the end.
@@ -297,13 +304,7 @@ pub fn load(d: usize, s: &[u64], at: usize) -> [u64; 6]
     requires { ((2 ≤ d) × (d ≤ 6)) × (at + d ≤ length s.now) }
     ensures { result ≡ held d (drop at s.now) }
 {
-    match d {
-        2 => load_by(2, s, at),
-        3 => load_by(3, s, at),
-        4 => load_by(4, s, at),
-        5 => load_by(5, s, at),
-        _ => load_by(6, s, at),
-    }
+    specialized!(d, load_by(d, s, at))
 }
 
 // The d words of an element, into a lent list from `at` on.
@@ -319,11 +320,5 @@ pub fn store(d: usize, out: &mut [u64], at: usize, e: [u64; 6])
     requires { ((2 ≤ d) × (d ≤ 6)) × (at + d ≤ length out.old) }
     ensures { out.new ≡ take at out.old ++ take d e ++ drop (at + d) out.old }
 {
-    match d {
-        2 => store_by(2, out, at, e),
-        3 => store_by(3, out, at, e),
-        4 => store_by(4, out, at, e),
-        5 => store_by(5, out, at, e),
-        _ => store_by(6, out, at, e),
-    }
+    specialized!(d, store_by(d, out, at, e))
 }

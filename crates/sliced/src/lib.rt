@@ -80,13 +80,7 @@ pub fn times(d: usize, a: [u64; 6], b: [u64; 6]) -> [u64; 6]
     requires { (2 ≤ d) × (d ≤ 6) }
     ensures { result ≡ times_lanes d a b }
 {
-    match d {
-        2 => times_by(2, ring::lower_of(2), a, b),
-        3 => times_by(3, ring::lower_of(3), a, b),
-        4 => times_by(4, ring::lower_of(4), a, b),
-        5 => times_by(5, ring::lower_of(5), a, b),
-        _ => times_by(6, ring::lower_of(6), a, b),
-    }
+    ring::specialized!(d, times_by(d, ring::lower_of(d), a, b))
 }
 
 // Bit i of w in every lane.
@@ -126,13 +120,7 @@ pub fn support(d: usize, a: [u64; 6]) -> u64
     requires { (2 ≤ d) × (d ≤ 6) }
     ensures { result ≡ support_of d a }
 {
-    match d {
-        2 => support_by(2, a),
-        3 => support_by(3, a),
-        4 => support_by(4, a),
-        5 => support_by(5, a),
-        _ => support_by(6, a),
-    }
+    ring::specialized!(d, support_by(d, a))
 }
 
 // The bit x under the word w, whose bits move up one lane.
