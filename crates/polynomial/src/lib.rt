@@ -32,29 +32,26 @@ fn horner_of_four(p: &[[u64; 6]; 64], len: usize, x: u64) -> [u64; 6]
     horner(4, p, len, x)
 }
 
-// The same. In each arm d is a constant, from which the compiler makes a loop for that d.
+// The same, with a loop for each d.
 fn eval64(d: usize, p: &[[u64; 6]; 64], len: usize, x: u64) -> [u64; 6]
     requires { ((2 ≤ d) × (d ≤ 6)) × (len ≤ 64) × Shaped p.now }
     ensures { result ≡ held d (value 64 d (coefs d len p.now) (point d x)) }
 {
-    match d {
-        2 => horner(2, p, len, x),
-        3 => horner(3, p, len, x),
-        4 => horner_of_four(p, len, x),
-        5 => horner(5, p, len, x),
-        _ => horner(6, p, len, x),
+    if d == 4 {
+        return horner_of_four(p, len, x);
     }
+    ring::specialized!(d, horner(d, p, len, x))
 }
 
-// The value at holder x's point of the polynomial of the first len rows: words of 64 bits, reduced once at the end.
+// The value at holder x's point of the polynomial of the first len rows.
 pub fn eval(k: u64, d: usize, p: [[u64; 6]; 64], len: usize, x: u64) -> [u64; 6]
     requires { ((1 ≤ k) × (k ≤ 64)) × ((2 ≤ d) × (d ≤ 6)) × (len ≤ 64) }
     ensures { result ≡ held d (value k d (coefs d len p) (point d x)) }
 {
-    ring::reduce(k, eval64(d, &p, len, x))
+    eval_lent(k, d, &p, len, x)
 }
 
-// The same of a polynomial in lent rows.
+// The same of a polynomial in lent rows: words of 64 bits, reduced once at the end.
 pub fn eval_lent(k: u64, d: usize, p: &[[u64; 6]; 64], len: usize, x: u64) -> [u64; 6]
     requires { ((1 ≤ k) × (k ≤ 64)) × ((2 ≤ d) × (d ≤ 6)) × (len ≤ 64) × Shaped p.now }
     ensures { result ≡ held d (value k d (coefs d len p.now) (point d x)) }
