@@ -61,43 +61,12 @@ pub struct Signed {
     pub magnitude: u64,
 }
 
-// 2 to the power d.
-fn two_to(d: usize) -> usize
-    requires { (2 ≤ d) × (d ≤ 6) }
-    ensures { result ≡ 2 ^ d }
-{
-    match d {
-        2 => 4,
-        3 => 8,
-        4 => 16,
-        5 => 32,
-        _ => 64,
-    }
-}
-
 // Whether parameters are in their ranges.
+#[tactic(auto, unfolding(crate::specs::Params::params_ok))]
 pub fn params_ok(p: Params) -> bool
     ensures { result ≡ params_ok p }
 {
-    if p.k < 1 {
-        return false;
-    }
-    if 64 < p.k {
-        return false;
-    }
-    if p.d < 2 {
-        return false;
-    }
-    if 6 < p.d {
-        return false;
-    }
-    if p.n < 1 {
-        return false;
-    }
-    if two_to(p.d) <= p.n {
-        return false;
-    }
-    p.t < p.n
+    1 <= p.k && p.k <= 64 && 2 <= p.d && p.d <= 6 && 1 <= p.n && p.n < 1 << p.d && p.t < p.n
 }
 
 // The product modulo 2^64, from halves of 32 bits: what the upper halves give together is lost.
@@ -146,10 +115,7 @@ pub fn mul(k: u64, a: u64, b: u64) -> u64
 pub fn in_width(k: u64, w: u64) -> bool
     ensures { result ≡ in_width k w }
 {
-    if 64 <= k {
-        return true;
-    }
-    w >> k == 0
+    64 <= k || w >> k == 0
 }
 
 // Whether all words of a list are: all of them together are, bit by bit.
@@ -228,13 +194,11 @@ pub fn check_width(k: u64, s: &[u64]) -> Result<(), Refusal>
 // ---- the call that reads a word as a signed number
 
 // Whether words may have so many bits.
+#[tactic(auto, unfolding(crate::specs::Faults::bits_ok))]
 fn bits_ok(k: u64) -> bool
     ensures { result ≡ bits_ok k }
 {
-    if k < 1 {
-        return false;
-    }
-    k <= 64
+    1 <= k && k <= 64
 }
 
 // The signed reading of a word in width, in two's complement.
