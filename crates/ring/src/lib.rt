@@ -1,7 +1,7 @@
 // Elements of the Galois ring: d words of k bits, 2 to 6, in arrays of six with zeros after the d words.
 #![tactic(auto)]
 
-ghost use Rattle.std.specs.Prelude.{◌≡◌, cond, ◌∷◌, ◌++◌, ℕ, ◌+◌, ◌-◌, ◌^◌, ◌≤◌, ltb, length, take, drop, get_or};
+ghost use Rattle.std.specs.Prelude.{◌≡◌, cond, ◌∷◌, ◌++◌, ℕ, ◌+◌, ◌-◌, ◌^◌, ◌≤◌, ◌<◌, ltb, length, take, drop, get_or, slice_index};
 ghost use Rattle.galois.specs.Element.{zip, sum, difference, held, lower, down_w, plus_w, add_scaled, product, point, reduce, inverse};
 ghost use Rattle.galois.specs.Inversion.{fermat, newtons};
 
@@ -55,19 +55,22 @@ pub fn lower_of(d: usize) -> [u64; 6]
     LOWER[d]
 }
 
+// Six words, by the place of each.
+#[inline(always)]
+pub fn each_word<F: Fn(usize) -> u64>(word: F) -> [u64; 6]
+    requires { (j : ℕ) → j < 6 → F.pre word j }
+    ensures each { (j : ℕ) → j < 6 → F.post word j (slice_index result j) }
+    ensures six { length result ≡ 6 }
+{
+    [word(0), word(1), word(2), word(3), word(4), word(5)]
+}
+
 // The sum, word by word, of all six.
 pub fn sum(k: u64, a: [u64; 6], b: [u64; 6]) -> [u64; 6]
     requires { (1 ≤ k) × (k ≤ 64) }
     ensures { result ≡ sum k a b }
 {
-    [
-        words::add(k, a[0], b[0]),
-        words::add(k, a[1], b[1]),
-        words::add(k, a[2], b[2]),
-        words::add(k, a[3], b[3]),
-        words::add(k, a[4], b[4]),
-        words::add(k, a[5], b[5]),
-    ]
+    each_word(|j| words::add(k, a[j], b[j]))
 }
 
 // The difference, word by word, of all six.
@@ -75,14 +78,7 @@ pub fn difference(k: u64, a: [u64; 6], b: [u64; 6]) -> [u64; 6]
     requires { (1 ≤ k) × (k ≤ 64) }
     ensures { result ≡ difference k a b }
 {
-    [
-        words::sub(k, a[0], b[0]),
-        words::sub(k, a[1], b[1]),
-        words::sub(k, a[2], b[2]),
-        words::sub(k, a[3], b[3]),
-        words::sub(k, a[4], b[4]),
-        words::sub(k, a[5], b[5]),
-    ]
+    each_word(|j| words::sub(k, a[j], b[j]))
 }
 
 // X times r in words of 64 bits, over six words. What stands at d and above never comes down, and is not cleared here. Two of the modulus's
@@ -116,14 +112,7 @@ pub fn keep(d: usize, a: [u64; 6]) -> [u64; 6]
     requires { d ≤ 6 }
     ensures { result ≡ held d a }
 {
-    [
-        below(d, 0, a[0]),
-        below(d, 1, a[1]),
-        below(d, 2, a[2]),
-        below(d, 3, a[3]),
-        below(d, 4, a[4]),
-        below(d, 5, a[5]),
-    ]
+    each_word(|j| below(d, j, a[j]))
 }
 
 // The lowest k bits of each word.
@@ -131,14 +120,7 @@ pub fn reduce(k: u64, a: [u64; 6]) -> [u64; 6]
     requires { (1 ≤ k) × (k ≤ 64) }
     ensures { result ≡ reduce k a }
 {
-    [
-        words::low_bits(a[0], k),
-        words::low_bits(a[1], k),
-        words::low_bits(a[2], k),
-        words::low_bits(a[3], k),
-        words::low_bits(a[4], k),
-        words::low_bits(a[5], k),
-    ]
+    each_word(|j| words::low_bits(a[j], k))
 }
 
 // One word of a sum with a multiple, in 64 bits: x plus c times y.
@@ -152,14 +134,7 @@ fn plus(c: u64, x: u64, y: u64) -> u64
 fn add_scaled(c: u64, s: [u64; 6], b: [u64; 6]) -> [u64; 6]
     ensures { result ≡ add_scaled 64 c s b }
 {
-    [
-        plus(c, s[0], b[0]),
-        plus(c, s[1], b[1]),
-        plus(c, s[2], b[2]),
-        plus(c, s[3], b[3]),
-        plus(c, s[4], b[4]),
-        plus(c, s[5], b[5]),
-    ]
+    each_word(|j| plus(c, s[j], b[j]))
 }
 
 // The same for c 0 or 1, with no product.
