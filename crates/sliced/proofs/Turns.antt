@@ -13,6 +13,7 @@ use Rattle.algebra.specs.Shares.{All}
 use Rattle.galois.specs.Element.{Element, zip, zero_e, held}
 use Rattle.galois.proofs.Zip.{six-words}
 use Rattle.galois.proofs.Held.{to-six}
+use Rattle.ring.proofs.Words.{six-by}
 use Rattle.sliced.specs.Lane.{lane, plus_lane, shift_lanes, horner, support_of, under, packed}
 use Rattle.sliced.proofs.Bits.{bit, bit-cases}
 use Rattle.sliced.proofs.Packed.{packed-width}
@@ -27,10 +28,14 @@ pub map-six : (f : ℕ → ℕ) (a : List ℕ) → length a ≡ 6
     → map f a ≡ f (get_or a 0 0) ∷ f (get_or a 1 0) ∷ f (get_or a 2 0) ∷ f (get_or a 3 0) ∷ f (get_or a 4 0) ∷ f (get_or a 5 0) ∷ []
 map-six f a h = ap (map f) (six-words a h)
 
-pub lane-six : (a : List ℕ) (i : ℕ) → length a ≡ 6
-    → lane 6 a i ≡ bit i (get_or a 0 0) ∷ bit i (get_or a 1 0) ∷ bit i (get_or a 2 0) ∷ bit i (get_or a 3 0) ∷ bit i (get_or a 4 0) ∷ bit i (get_or a 5 0) ∷ []
+pub map-by : (f : ℕ → ℕ) (a r : List ℕ) → length a ≡ 6 → length r ≡ 6
+    → ((j : ℕ) → j < 6 → get_or r j 0 ≡ f (get_or a j 0)) → r ≡ map f a
+map-by f a r ha hr e = six-by (λ j. f (get_or a j 0)) r hr e ∙ sym (map-six f a ha)
+
+pub lane-by : (a : List ℕ) (i : ℕ) (r : List ℕ) → length a ≡ 6 → length r ≡ 6
+    → ((j : ℕ) → j < 6 → get_or r j 0 ≡ bit i (get_or a j 0)) → r ≡ lane 6 a i
 unfolding lane
-lane-six a i h = ap (map (bit i)) (take_all 6 a (le_of_eq h)) ∙ map-six (bit i) a h
+lane-by a i r ha hr e = map-by (bit i) a r ha hr e ∙ sym (ap (map (bit i)) (take_all 6 a (le_of_eq ha)))
 
 abbrev pub any_of : List ℕ → ℕ
 any_of w = bit_or (get_or w 0 0) (bit_or (get_or w 1 0) (bit_or (get_or w 2 0) (bit_or (get_or w 3 0) (bit_or (get_or w 4 0) (get_or w 5 0)))))

@@ -14,14 +14,7 @@ const ALL: u64 = 0xffff_ffff_ffff_ffff;
 pub fn plus(a: [u64; 6], b: [u64; 6]) -> [u64; 6]
     ensures { result ≡ plus_lanes a b }
 {
-    [
-        a[0] ^ b[0],
-        a[1] ^ b[1],
-        a[2] ^ b[2],
-        a[3] ^ b[3],
-        a[4] ^ b[4],
-        a[5] ^ b[5],
-    ]
+    ring::each_word(|j| a[j] ^ b[j])
 }
 
 // One word of X times a slice: x, from the place below, plus the top word where the modulus has a coefficient m, 0 or 1.
@@ -52,14 +45,7 @@ fn shift(d: usize, low: [u64; 6], r: [u64; 6]) -> [u64; 6]
 fn add_scaled(c: u64, s: [u64; 6], b: [u64; 6]) -> [u64; 6]
     ensures { result ≡ zip (plus_lane c) s b }
 {
-    [
-        s[0] ^ (c & b[0]),
-        s[1] ^ (c & b[1]),
-        s[2] ^ (c & b[2]),
-        s[3] ^ (c & b[3]),
-        s[4] ^ (c & b[4]),
-        s[5] ^ (c & b[5]),
-    ]
+    ring::each_word(|j| s[j] ^ (c & b[j]))
 }
 
 // The product lane by lane, by Horner's rule over the words of a from the top.
@@ -96,14 +82,7 @@ pub fn spread(a: [u64; 6], i: u64) -> [u64; 6]
     requires { i < 64 }
     ensures { result ≡ spread_lane a i }
 {
-    [
-        fill(a[0], i),
-        fill(a[1], i),
-        fill(a[2], i),
-        fill(a[3], i),
-        fill(a[4], i),
-        fill(a[5], i),
-    ]
+    ring::each_word(|j| fill(a[j], i))
 }
 
 // The set of the lanes that are not zero.
@@ -136,14 +115,7 @@ fn prepend(e: [u64; 6], r: [u64; 6]) -> [u64; 6]
     requires { (all_in_width 1 e ≡ true) × (all_in_width 63 r ≡ true) }
     ensures { (result ≡ zip under e r) × (length result ≡ 6) }
 {
-    [
-        push(e[0], r[0]),
-        push(e[1], r[1]),
-        push(e[2], r[2]),
-        push(e[3], r[3]),
-        push(e[4], r[4]),
-        push(e[5], r[5]),
-    ]
+    ring::each_word(|j| push(e[j], r[j]))
 }
 
 // Bit v of each word.
@@ -151,14 +123,7 @@ fn bits_of(y: [u64; 6], v: u64) -> [u64; 6]
     requires { v < 64 }
     ensures { result ≡ lane 6 y v }
 {
-    [
-        (y[0] >> v) % 2,
-        (y[1] >> v) % 2,
-        (y[2] >> v) % 2,
-        (y[3] >> v) % 2,
-        (y[4] >> v) % 2,
-        (y[5] >> v) % 2,
-    ]
+    ring::each_word(|j| (y[j] >> v) % 2)
 }
 
 // Bit v of the words of ys[i] in lane i, for each i below m; the lanes from m on are zero. That the slice has six words tells the caller that
