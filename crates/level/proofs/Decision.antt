@@ -19,8 +19,8 @@ use Rattle.level.specs.Level.{level_of, level_fault}
 use Rattle.level.specs.Shares.{shares_of, Sized, Numbered, holder_set}
 use Rattle.level.specs.KeyEquation.{start_lanes, run_lanes}
 use Rattle.level.specs.Interpolation.{Newton, start_newton, gather_lanes}
-use Rattle.level.specs.declared.Level.{Level}
-use Rattle.level.specs.declared.Level.TheVariants.{Codeword, Nothing}
+use Rattle.std.specs.Prelude.{Option}
+use Rattle.std.specs.declared.option.Option.TheVariants.{Some, None}
 use Rattle.level.proofs.Shares.{numbered-length, holders-numbered, sized-length}
 use Rattle.level.proofs.AtBit.{bit-elements, bit_length, none, lane-words, lane-holder, lane-point}
 use Rattle.level.proofs.FieldDecoder.{level-fault, verdict-few, verdict-found, verdict-none}
@@ -31,10 +31,10 @@ module _ (d : ℕ) (dl : 2 ≤ d) (dh : d ≤ 6) (v t e m : ℕ) (hs : List ℕ)
   W = map (bit_share v) (shares_of d m hs ys)
 
   -- the answer at that bit, and its number
-  abbrev Decided : Level → Type 0
+  abbrev Decided : Option ℕ → Type 0
   Decided r = (r ≡ level_of d W (codeword 1 d t e W)) × (level_fault r ≡ fault_of (from_codeword (codeword 1 d t e W)))
 
-  told : (r : Level) → r ≡ level_of d W (codeword 1 d t e W) → Decided r
+  told : (r : Option ℕ) → r ≡ level_of d W (codeword 1 d t e W) → Decided r
   told r x = (x, ap level_fault x ∙ level-fault d W (codeword 1 d t e W))
 
   pub numbered : Numbered m hs
@@ -76,7 +76,7 @@ module _ (d : ℕ) (dl : 2 ≤ d) (dh : d ≤ 6) (v t e m : ℕ) (hs : List ℕ)
     hb : InWidth 1 d W
     hb = bit-elements d v (shares_of d m hs ys) b
 
-    pub decides-few : n ≤ t → Decided Nothing
+    pub decides-few : n ≤ t → Decided None
     decides-few h =
         told _ (verdict-few d dl dh t e W z m lw mh ha hb enough x y hs lx ly points words holders w ew s refl (omega (arith, es.0)))
 
@@ -87,10 +87,10 @@ module _ (d : ℕ) (dl : 2 ≤ d) (dh : d ≤ 6) (v t e m : ℕ) (hs : List ℕ)
       eo-s : o ≡ holder_set (support_of d s.gap) hs 0 m
       eo-s = eo ∙ ap (λ l. holder_set l hs 0 m) (eg ∙ ap (support_of d) es.1)
 
-      pub decides-found : ones o ≤ e → Decided (Codeword o)
+      pub decides-found : ones o ≤ e → Decided (Some o)
       decides-found h =
           told _ (verdict-found d dl dh t e W z m lw mh ha hb enough x y hs lx ly points words holders w ew s refl full-s o eo-s h)
 
-      pub decides-none : e < ones o → Decided Nothing
+      pub decides-none : e < ones o → Decided None
       decides-none h =
           told _ (verdict-none d dl dh t e W z m lw mh ha hb enough x y hs lx ly points words holders w ew s refl full-s o eo-s h)

@@ -43,7 +43,7 @@ use Rattle.level.specs.Level.{level_of, level_fault}
 use Rattle.level.specs.Shares.{holder_set}
 use Rattle.level.specs.KeyEquation.{start_lanes, run_lanes}
 use Rattle.level.specs.Interpolation.{Newton, start_newton, gather_lanes}
-use Rattle.level.specs.declared.Level.TheVariants.{Codeword, Nothing}
+use Rattle.std.specs.declared.option.Option.TheVariants.{Some, None}
 use Rattle.level.proofs.Lanes.{Lanes, lanes-same, in-support}
 use Rattle.level.proofs.KeyEquation.{locates}
 use Rattle.level.proofs.Interpolation.{Gathered, gathered-all}
@@ -148,7 +148,7 @@ module _ (d : ℕ) (dl : 2 ≤ d) (dh : d ≤ 6) (t e : ℕ) (ss : List Share) (
   g : Gathered d dl dh ss s₀ m lm mh a xs points t T ss p
   g = subst⁻¹ (Gathered d dl dh ss s₀ m lm mh a xs points t T ss) ep (gathered-all d dl dh ss s₀ m lm mh a xs points t T ys values w test)
 
-  pub verdict-few : p.n ≤ t → Nothing ≡ level_of d ss (codeword 1 d t e ss)
+  pub verdict-few : p.n ≤ t → None ≡ level_of d ss (codeword 1 d t e ss)
   unfolding level_of
   verdict-few h = rw (too_few d dl dh t e ss a (rw lm enough) q inv (few g.rest))
     where
@@ -190,13 +190,13 @@ module _ (d : ℕ) (dl : 2 ≤ d) (dh : d ≤ 6) (t e : ℕ) (ss : List Share) (
       counted : ones r ≡ errors 1 d c ss
       counted = ap ones (er ∙ wrong-set) ∙ ones-errors 1 d c ss (all_map (λ s x. x.0) ss a.0) a.1
 
-      pub verdict-found : ones r ≤ e → Codeword r ≡ level_of d ss (codeword 1 d t e ss)
+      pub verdict-found : ones r ≤ e → Some r ≡ level_of d ss (codeword 1 d t e ss)
       unfolding level_of
       verdict-found h =
           let l : codeword 1 d t e ss ≡ some c = is-codeword ∙ rw (le-leb (errors 1 d c ss) e (omega (arith, counted))) in
-          rw l (ap Codeword (er ∙ wrong-set))
+          rw l (ap Some (er ∙ wrong-set))
 
-      pub verdict-none : e < ones r → Nothing ≡ level_of d ss (codeword 1 d t e ss)
+      pub verdict-none : e < ones r → None ≡ level_of d ss (codeword 1 d t e ss)
       unfolding level_of
       verdict-none h =
           let l : codeword 1 d t e ss ≡ none = is-codeword ∙ rw (lt-leb (errors 1 d c ss) e (omega (arith, counted))) in

@@ -60,10 +60,8 @@ pub fn residues(
     ensures { rest.new ≡ residue_rows k d (coefs d (suc t) p) (suc t) (shares_of d m hs.now ys.now)
         rest.old }
 {
-    let mut i = t + 1;
-    while i < m {
+    for i in t + 1..m {
         rest[i] = residue(k, d, p, t, hs[i], ys[i]);
-        i += 1;
     }
 }
 
@@ -191,9 +189,7 @@ fn locate(d: usize, xs: [u64; 6], ys: [u64; 6], t: usize, m: usize) -> u64
         first: 0,
         second: t,
     };
-    let mut i = m as u64;
-    while 0 < i {
-        i -= 1;
+    for i in (0..m as u64).rev() {
         g = step(d, xs, i, g, &mut v0, &mut b0, &mut v1, &mut b1);
     }
     sliced::support(d, b1)
@@ -237,9 +233,7 @@ fn gather(d: usize, xs: [u64; 6], t: usize, m: usize, trusted: u64, gap: &mut [u
 {
     let mut nodal = sliced::spread([1, 0, 0, 0, 0, 0], 0);
     let mut n = 0;
-    let mut i = m as u64;
-    while 0 < i {
-        i -= 1;
+    for i in (0..m as u64).rev() {
         n = trust(d, xs, t, trusted, i, n, gap, &mut nodal);
     }
     n
@@ -251,11 +245,9 @@ fn holder_set(lanes: u64, m: usize, hs: &[u64; 63]) -> u64
     ensures { result ≡ holder_set lanes hs.now 0 m }
 {
     let mut w: u64 = 0;
-    let mut i = m;
-    while 0 < i {
-        i -= 1;
+    for i in (0..m).rev() {
         if (lanes >> i) % 2 == 1 {
-            w = w | (1u64 << (hs[i] - 1));
+            w |= 1u64 << (hs[i] - 1);
         }
     }
     w

@@ -9,23 +9,21 @@ use Rattle.level.proofs.gather.Goals.{At-loop-i}
 pub loop-i-init : goal.loop-i-init
 loop-i-init c =
     let a = c.args in
-    (omega arith, gather-start a.d a.xs a.t a.trusted a.m _)
+    gather-start a.d a.xs a.t a.trusted a.m _
 
 pub trust-n-requires : goal.trust-n-requires
 trust-n-requires c =
     let l = (goal.at.trust-n-requires c).At-loop-i in
-    ((omega arith, omega arith), omega arith, omega (arith, l.loop-i.invariant.0))
+    ((omega arith, omega arith), omega arith, omega arith)
 
 pub loop-i-preserved : goal.loop-i-preserved
 loop-i-preserved c =
     let a = c.args in
-    let v = c.loop-i.invariant in
-    (omega arith, gather-turn a.d a.xs a.t a.trusted a.m _ c.loop-i.i (omega arith) v.0 v.1 c.trust-n.ensures)
+    gather-turn a.d a.xs a.t a.trusted a.m _ c.loop-i.i (omega arith) (omega arith) c.loop-i.invariant c.trust-n.ensures
 
 pub returns : goal.returns
 returns c =
     let l = (goal.at.returns c).At-loop-i in
     let a = l.args in
-    let v = l.loop-i.invariant in
-    let e = gather-end a.d a.xs a.t a.trusted a.m a.gap.now l.loop-i.i l.spread-nodal.ensures (omega arith) v.1 in
+    let e = gather-end a.d a.xs a.t a.trusted a.m a.gap.now l.loop-i.i l.spread-nodal.ensures (omega arith) l.loop-i.invariant in
     (ap (λ (s : Newton). s.n) e, ap (λ (s : Newton). s.gap) e)

@@ -8,32 +8,28 @@ use Rattle.level.proofs.Turns.{set-start, set-in, set_out}
 use Rattle.level.proofs.holder_set.Goals as goal
 
 pub loop-i-init : goal.loop-i-init
-loop-i-init c = (omega arith, set-start c.args.lanes c.args.m c.args.hs.now)
+loop-i-init c = set-start c.args.lanes c.args.m c.args.hs.now
 
 pub overflow_sub-w : goal.overflow_sub-w
-overflow_sub-w c = (c.requires.1 (c.loop-i.i - 1) (omega (arith, c.loop-i.invariant.0))).0
+overflow_sub-w c = (c.requires.1 (c.loop-i.i - 1) (omega arith)).0
 
 pub overflow_shl-w : goal.overflow_shl-w
-overflow_shl-w c = omega (arith, (c.requires.1 (c.loop-i.i - 1) (omega (arith, c.loop-i.invariant.0))).1)
+overflow_shl-w c = omega (arith, (c.requires.1 (c.loop-i.i - 1) (omega arith)).1)
 
 pub loop-i-preserved-then-lanes-i-eq1 : goal.loop-i-preserved-then-lanes-i-eq1
 loop-i-preserved-then-lanes-i-eq1 c =
-    let a = c.args in (
-      omega arith,
-      set-in a.lanes a.m a.hs.now c.loop-i.i (omega arith) c.loop-i.invariant.0 c.loop-i.w c.loop-i.invariant.1 c.if-lanes-i-eq1.true
-          (c.requires.1 (c.loop-i.i - 1) (omega (arith, c.loop-i.invariant.0))).1,
-    )
+    let a = c.args in
+    set-in a.lanes a.m a.hs.now c.loop-i.i (omega arith) (omega arith) c.loop-i.w c.loop-i.invariant c.if-lanes-i-eq1.true
+    (c.requires.1 (c.loop-i.i - 1) (omega arith)).1
 
 pub loop-i-preserved : goal.loop-i-preserved
 loop-i-preserved c =
-    let a = c.args in (
-      omega arith,
-      set_out a.lanes a.m a.hs.now c.loop-i.i (omega arith) c.loop-i.invariant.0 c.loop-i.w c.loop-i.invariant.1 (ne_eqb _ 1 c.if-lanes-i-eq1.false),
-    )
+    let a = c.args in
+    set_out a.lanes a.m a.hs.now c.loop-i.i (omega arith) (omega arith) c.loop-i.w c.loop-i.invariant (ne_eqb _ 1 c.if-lanes-i-eq1.false)
 
 pub returns : goal.returns
 returns c =
     let a = c.args in
     let e : c.loop-i.i ≡ 0 = omega arith in
     let f : a.m - c.loop-i.i ≡ a.m = omega arith in
-    c.loop-i.invariant.1 ∙ (λ j. holder_set a.lanes a.hs.now (e j) (f j))
+    c.loop-i.invariant ∙ (λ j. holder_set a.lanes a.hs.now (e j) (f j))

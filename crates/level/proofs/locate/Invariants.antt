@@ -5,6 +5,3 @@ use Rattle.level.proofs.locate.Given as goal
 
 abbrev pub invariant-loop-i : goal.invariant-loop-i
 invariant-loop-i l = Ran l.d l.xs l.t l.m (pairs_of l.initial.g l.initial.v0 l.initial.b0 l.initial.v1 l.initial.b1) l.i (pairs_of l.g l.v0 l.b0 l.v1 l.b1)
-
-abbrev pub decreases-loop-i : goal.decreases-loop-i
-decreases-loop-i l = l.i
