@@ -29,7 +29,8 @@ use Rattle.codewords.proofs.Candidate.{poly-of}
 use Rattle.level.specs.Shares.{share_at, shares_from, shares_of, Sized}
 use Rattle.level.proofs.Shares.{length_from, from_next, from_end, sized-from}
 use Rattle.rounds.specs.Residues.{Through}
-use Rattle.rounds.proofs.Rows.{zero_row, one_rows, map-take, cut, take-root, take-extend, cut-zero, cut-one}
+use Rattle.std.proofs.lemmas.List.{take-map}
+use Rattle.rounds.proofs.Rows.{zero_row, one_rows, cut, take-root, take-extend, cut-zero, cut-one}
 
 module _ (k d : ℕ) (h : 1 ≤ k) (dl : 2 ≤ d) (dh : d ≤ 6) where
   abbrev shares : List Share → List (Rattle.algebra.specs.Shares.Share (GR d k))
@@ -173,4 +174,4 @@ module _ (k d : ℕ) (h : 1 ≤ k) (dl : 2 ≤ d) (dh : d ≤ 6) where
     interpolate-end a w i z q m r g e =
         through t (shares_of d (suc t) hs ys) (cut k (t + 2) q) (cut k (t + 2) m) (rw (from_end d hs ys i (suc t) z) at g)
         (length_from d hs ys 0 (suc t)) a w r
-        (e ∙ map-take (reduce k) (suc t) q ∙ sym (take-take (suc t) (t + 2) (reduce_rows k q) (omega arith)))
+        (e ∙ sym (take-map (reduce k) (suc t) q) ∙ sym (take-take (suc t) (t + 2) (reduce_rows k q) (omega arith)))

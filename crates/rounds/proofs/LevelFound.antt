@@ -3,7 +3,7 @@
 use mathlib.Core.Path.{◌≡◌, refl, ◌∙◌, ap}
 use mathlib.Core.Bool.{Bool, true, false, cond}
 use mathlib.Core.List.{List, [], ◌∷◌, map}
-use mathlib.Core.Option.{Option, none, some}
+use mathlib.Core.Option.{Option as Perhaps, none, some}
 use Prim.Native.Nat.{ℕ, zero, suc, ◌≤◌, ◌<◌}
 use native.Mathlib.Omega.{arith}
 use borrow.Author.Tests.{leb-true, leb-false, le-leb, lt-leb}
@@ -20,13 +20,17 @@ use Rattle.codewords.proofs.ErrorSet.{ones-errors}
 use Rattle.codewords.proofs.Residue.{residue-element}
 use Rattle.codewords.proofs.Value.{rows_of}
 use Rattle.level.specs.Level.{level_of}
-use Rattle.level.specs.declared.Level.{Level}
 use Rattle.rounds.specs.Found.{lowest_bit, named, level_found, found_fault, round_fault}
 use Rattle.rounds.specs.Residues.{bits_of_all}
 use Rattle.rounds.specs.declared.Found.{Found}
-use Rattle.rounds.specs.declared.Found.TheVariants.{Wrong, Nothing}
+use Rattle.std.specs.Prelude.{Option}
+use Rattle.std.specs.declared.option.Option.TheVariants.{Some, None}
 use Rattle.rounds.proofs.Compared.{no-errors}
 use Rattle.rounds.proofs.Lowest.{Lowest, lowest}
+
+-- the answer of a level that names the wrong holders
+abbrev pub found_wrong : ℕ → Bool → Option Found
+found_wrong w b = Some (record { wrong = w; all = b })
 
 -- bit v of what is left
 bits_left : (k d : ℕ) (p : Polynomial) (v : ℕ) (ss : List Share) → map (bit_share v) (map (left k d p) ss) ≡ map (at_bit k d p v) ss
@@ -54,13 +58,13 @@ module _ (k d t e : ℕ) (p : Polynomial) (ss : List Share) where
   W = map (at_bit k d p (lowest_bit k d p ss)) ss
 
   -- the cases
-  pub by_level : (P : Found → Type 0) → (errors k d p ss ≤ e → P (Wrong (error_set k d p ss) true)) →
-      (e < errors k d p ss → codeword 1 d t e W ≡ none → P Nothing) →
-      (e < errors k d p ss → (g : Polynomial) → codeword 1 d t e W ≡ some g → P (Wrong (error_set 1 d g W) false)) → P (level_found k d t e p ss)
+  pub by_level : (P : Option Found → Type 0) → (errors k d p ss ≤ e → P (found_wrong (error_set k d p ss) true)) →
+      (e < errors k d p ss → codeword 1 d t e W ≡ none → P None) →
+      (e < errors k d p ss → (g : Polynomial) → codeword 1 d t e W ≡ some g → P (found_wrong (error_set 1 d g W) false)) → P (level_found k d t e p ss)
   unfolding level_found level_of
   by_level P few nothing wrong = go (leb (errors k d p ss) e) refl
     where
-      field : e < errors k d p ss → (o : Option Polynomial) → codeword 1 d t e W ≡ o → P (named (level_of d W o))
+      field : e < errors k d p ss → (o : Perhaps Polynomial) → codeword 1 d t e W ≡ o → P (named (level_of d W o))
       field m none x = nothing m x
       field m (some g) x = wrong m g x
 
@@ -69,13 +73,13 @@ module _ (k d t e : ℕ) (p : Polynomial) (ss : List Share) where
       go false x = rw x (field (leb-false (errors k d p ss) e x) (codeword 1 d t e W) refl)
 
   -- few enough differ
-  pub found-few : (set : ℕ) → set ≡ error_set k d p ss → errors k d p ss ≤ e → Wrong set true ≡ level_found k d t e p ss
+  pub found-few : (set : ℕ) → set ≡ error_set k d p ss → errors k d p ss ≤ e → found_wrong set true ≡ level_found k d t e p ss
   unfolding level_found
-  found-few set es h = rw (le-leb (errors k d p ss) e h) (ap (λ x. Wrong x true) es)
+  found-few set es h = rw (le-leb (errors k d p ss) e h) (ap (λ x. found_wrong x true) es)
 
   -- too many differ: the field decoder's answer, of the shares that are left
   pub found-field : e < errors k d p ss → (rs : List Share) → rs ≡ map (left k d p) ss → (bits : ℕ) → bits ≡ bits_of_all (map (left k d p) ss) →
-      (got : Level) →
+      (got : Option ℕ) →
       (let bs = map (bit_share (count_trailing_zeros 64 bits)) rs in
       got ≡ level_of d bs (codeword 1 d t e bs)) → named got ≡ level_found k d t e p ss
   unfolding level_found
@@ -83,16 +87,16 @@ module _ (k d t e : ℕ) (p : Polynomial) (ss : List Share) where
       ap named (rw (er, eb, bits_left k d p (lowest_bit k d p ss) ss) at el) ∙ rw (lt-leb (errors k d p ss) e h)
 
   -- the number of what it gives
-  fault-of : (o : Option Polynomial) → found_fault (named (level_of d W o)) ≡ fault_of (from_codeword o)
+  fault-of : (o : Perhaps Polynomial) → found_fault (named (level_of d W o)) ≡ fault_of (from_codeword o)
   unfolding found_fault level_of
   fault-of none = refl
   fault-of (some g) = refl
 
-  pub told : (r : Found) → r ≡ level_found k d t e p ss → (r ≡ level_found k d t e p ss) × (found_fault r ≡ round_fault k d t e p ss)
+  pub told : (r : Option Found) → r ≡ level_found k d t e p ss → (r ≡ level_found k d t e p ss) × (found_fault r ≡ round_fault k d t e p ss)
   unfolding level_found found_fault round_fault
   told r x = (x, ap found_fault x ∙ go (leb (errors k d p ss) e))
     where
-      go : (b : Bool) → found_fault (cond b (Wrong (error_set k d p ss) true) (named (level_of d W (codeword 1 d t e W))))
+      go : (b : Bool) → found_fault (cond b (found_wrong (error_set k d p ss) true) (named (level_of d W (codeword 1 d t e W))))
           ≡ cond b 0 (fault_of (from_codeword (codeword 1 d t e W)))
       go true = refl
       go false = fault-of (codeword 1 d t e W)

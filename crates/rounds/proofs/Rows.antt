@@ -3,17 +3,18 @@
 use mathlib.Core.Path.{◌≡◌, refl, sym, ◌∙◌, ap, ap₂}
 use mathlib.Core.List.{List, [], ◌∷◌, ◌++◌, map}
 use Prim.Native.Nat.{ℕ, zero, suc, ◌+◌, ◌≤◌, ◌<◌}
-use native.Mathlib.Nat.{mod-eq_of_lt, zero-add, le_of_suc-le-suc}
-use native.Mathlib.Numerals.{add-one}
+use native.Mathlib.Nat.{mod-eq_of_lt, le_of_suc-le-suc}
 use native.Mathlib.Omega.{arith}
-use lib.ListN.{length, take, get_or, set, replicate, length-map, get_or-map, get_or-replicate, replicate-append-replicate}
+use lib.ListN.{length, take, drop, get_or, set, replicate, length-map, get_or-map, get_or-replicate}
 use lib.Pow.{pow-lt}
-use lib.Seq.{paste, take-suc, take-suc-set, take-set-lt, take-take, map-set_same, take-paste, ext_get_or}
+use lib.Seq.{paste, take-set-lt, take-take, map-set_same, ext_get_or}
 use Rattle.words.proofs.Fill.{fill-next, fill-ahead}
 use Rattle.galois.specs.Element.{Element, reduce}
+use Rattle.galois.proofs.Lists.{length-reduce}
 use Rattle.galois.proofs.Narrow.{reduce-zeros}
 use Rattle.polynomial.specs.Rows.{Rows, Shaped, coefs, reduce_rows, change, less_times, less_multiple, root_rows, excess, extend_rows}
-use Rattle.polynomial.proofs.Shape.{shaped_row}
+use Rattle.polynomial.proofs.Shape.{shaped-length, shaped_row}
+use Rattle.std.proofs.lemmas.List.{map-append, take-map, drop-map, take-append-drop, take_at, length-take-le}
 
 abbrev pub zero_row : List ℕ
 zero_row = replicate 6 0
@@ -39,34 +40,25 @@ shaped-rows p l h =
     let c : i < 64 = rw n at b in
     get_or-map length p i [] ∙ h i c ∙ sym (get_or-replicate 64 i 6 0 c))
 
--- copying
-pub copy-turn : (p q : Rows) (i : ℕ) → i < length p → i < length q → take i p ≡ take i q → take (i + 1) (set p i (get_or q i [])) ≡ take (i + 1) q
-copy-turn p q i h g e =
-    ap (λ n. take n (set p i (get_or q i []))) (add-one i)
-    ∙ take-suc-set p i (get_or q i []) h
-    ∙ ap (λ (r : Rows). r ++ (get_or q i [] ∷ [])) e
-    ∙ sym (take-suc q i [] g)
-    ∙ ap (λ n. take n q) (sym (add-one i))
+-- the first n rows of z in place of those of p
+pub front : (n : ℕ) (p z r : Rows) → n ≤ 64 → Shaped p → Shaped z → r ≡ take n z → (take n (r ++ drop n p) ≡ take n z) × Shaped (r ++ drop n p)
+unfolding Shaped
+front n p z r h sp sz e =
+    let l : length (take n z) ≡ n = length-take-le n z (rw (shaped-length z sz) h) in
+    rw e (
+      take_at (take n z) (drop n p) n l,
+      map-append length (take n z) (drop n p)
+          ∙ ap₂ ◌++◌ (sym (take-map length n z) ∙ ap (take n) sz) (sym (drop-map length n p) ∙ ap (drop n) sp)
+          ∙ take-append-drop n (replicate 64 6),
+    )
 
--- clearing
-pub clear-turn : (p : Rows) (i : ℕ) → i < length p → take i p ≡ replicate i zero_row → take (i + 1) (set p i zero_row) ≡ replicate (i + 1) zero_row
-clear-turn p i h e =
-    ap (λ n. take n (set p i zero_row)) (add-one i)
-    ∙ take-suc-set p i zero_row h
-    ∙ ap (λ (r : Rows). r ++ (zero_row ∷ [])) e
-    ∙ replicate-append-replicate i 1 zero_row
-
+-- the first row, one
 pub clear-one : (p : Rows) (t : ℕ) → take (t + 2) p ≡ replicate (t + 2) zero_row → take (t + 2) (set p 0 one_row) ≡ one_rows (t + 1)
 clear-one p t e =
     let n : t + 2 ≡ suc (t + 1) = omega arith in
     take-set-lt (t + 2) p 0 one_row (omega arith) ∙ ap (λ (r : Rows). set r 0 one_row) (e ∙ ap (λ m. replicate m zero_row) n)
 
 -- cutting
-pub map-take : {A B : Type 0} (f : A → B) (n : ℕ) (l : List A) → map f (take n l) ≡ take n (map f l)
-map-take f zero l = refl
-map-take f (suc n) [] = refl
-map-take f (suc n) (x ∷ l) = ap (λ r. f x ∷ r) (map-take f n l)
-
 module _ (k : ℕ) where
   pub reduce-turn : (p r : Rows) (i : ℕ) → i < length p → r ≡ paste p 0 (map (reduce k) p) i →
       set r i (reduce k (get_or r i [])) ≡ paste p 0 (map (reduce k) p) (i + 1)
@@ -75,13 +67,13 @@ module _ (k : ℕ) where
       fill-next p (map (reduce k) p) r i (reduce k []) (reduce k (get_or r i [])) e h (omega arith)
       (ap (reduce k) (fill-ahead p (map (reduce k) p) r i [] e (omega arith)) ∙ sym (get_or-map (reduce k) p i []))
 
-  pub reduce-end : (p r : Rows) (n : ℕ) → n ≤ length p → r ≡ paste p 0 (map (reduce k) p) n → take n r ≡ map (reduce k) (take n p)
-  reduce-end p r n h e =
-      let l : length (map (reduce k) p) ≡ length p = length-map p (reduce k) in
-      ap (take n) e
-      ∙ ap (λ m. take m (paste p 0 (map (reduce k) p) n)) (sym (zero-add n))
-      ∙ take-paste p 0 (map (reduce k) p) n (omega arith) (omega arith)
-      ∙ sym (map-take (reduce k) n p)
+  reduce-lengths : (q : Rows) → map length (map (reduce k) q) ≡ map length q
+  reduce-lengths [] = refl
+  reduce-lengths (r ∷ q) = ap₂ ◌∷◌ (length-reduce k r) (reduce-lengths q)
+
+  pub reduce-shaped : (q : Rows) → Shaped q → Shaped (map (reduce k) q)
+  unfolding Shaped
+  reduce-shaped q h = reduce-lengths q ∙ h
 
 -- the first n rows, their words cut to k bits
 abbrev pub cut : ℕ → ℕ → Rows → Rows
@@ -126,11 +118,11 @@ module _ (k : ℕ) where
   reduce-one h = ap₂ ◌∷◌ (mod-eq_of_lt (pow-lt {i = 0} {j = k} h)) (reduce-zeros k 5)
 
   pub cut-zero : (n : ℕ) (p : Rows) → take n p ≡ replicate n zero_row → cut k n p ≡ replicate n zero_row
-  cut-zero n p e = sym (map-take (reduce k) n p) ∙ ap (map (reduce k)) e ∙ reduce-rows n
+  cut-zero n p e = take-map (reduce k) n p ∙ ap (map (reduce k)) e ∙ reduce-rows n
 
   pub cut-one : 1 ≤ k → (t : ℕ) (p : Rows) → take (t + 2) p ≡ one_rows (t + 1) → cut k (t + 2) p ≡ one_rows (t + 1)
   cut-one h t p e =
-      sym (map-take (reduce k) (t + 2) p) ∙ ap (map (reduce k)) e ∙ ap₂ ◌∷◌ (reduce-one h) (reduce-rows (t + 1))
+      take-map (reduce k) (t + 2) p ∙ ap (map (reduce k)) e ∙ ap₂ ◌∷◌ (reduce-one h) (reduce-rows (t + 1))
 
 -- zeros where the search starts
 pub zero-shaped : Shaped (replicate 64 zero_row)

@@ -29,10 +29,8 @@ fn clear_rows(n: usize, p: &mut [[u64; 6]; 64])
     requires { (n ≤ 64) × Shaped p.old }
     ensures { (take n p.new ≡ replicate n (replicate 6 0)) × Shaped p.new }
 {
-    let mut i = 0;
-    while i < n {
-        p[i] = [0; 6];
-        i += 1;
+    for row in p[..n].iter_mut() {
+        *row = [0; 6];
     }
 }
 
@@ -41,11 +39,7 @@ fn copy_rows(n: usize, q: &[[u64; 6]; 64], p: &mut [[u64; 6]; 64])
     requires { (n ≤ 64) × Shaped q.now × Shaped p.old }
     ensures { (take n p.new ≡ take n q.now) × Shaped p.new }
 {
-    let mut i = 0;
-    while i < n {
-        p[i] = q[i];
-        i += 1;
-    }
+    p[..n].copy_from_slice(&q[..n]);
 }
 
 // The lowest k bits of the words of the first t + 1 rows.
@@ -53,10 +47,8 @@ fn reduce_rows(k: u64, t: usize, q: &mut [[u64; 6]; 64])
     requires { ((1 ≤ k) × (k ≤ 64)) × (t ≤ 62) × Shaped q.old }
     ensures { (take (suc t) q.new ≡ reduce_rows k (take (suc t) q.old)) × Shaped q.new }
 {
-    let mut j = 0;
-    while j <= t {
-        q[j] = ring::reduce(k, q[j]);
-        j += 1;
+    for row in q[..t + 1].iter_mut() {
+        *row = ring::reduce(k, *row);
     }
 }
 
@@ -79,9 +71,7 @@ fn interpolate(
     // Interpolation starts from zero, which q is, and one: the first t + 2 rows of each, all that it looks at.
     clear_rows(t + 2, nodal);
     nodal[0] = [1, 0, 0, 0, 0, 0];
-    let mut i = t + 1;
-    while 0 < i {
-        i -= 1;
+    for i in (0..t + 1).rev() {
         polynomial::extend(k, d, q, nodal, t - i, hs[i], ys[i]);
     }
     reduce_rows(k, t, q);
@@ -97,20 +87,19 @@ fn compare(n: usize, m: usize, hs: &[u64; 63], rest: &[[u64; 6]; 64]) -> Differi
 {
     let mut set: u64 = 0;
     let mut bits: u64 = 0;
-    let mut i = m;
-    while n < i {
-        i -= 1;
+    for i in (n..m).rev() {
         let b = comparison::gap(rest[i], [0; 6]);
-        bits = bits | b;
+        bits |= b;
         if b != 0 {
-            set = set | (1u64 << (hs[i] - 1));
+            set |= 1u64 << (hs[i] - 1);
         }
     }
     Differing { set, bits }
 }
 
-// One level, if there is a codeword within the error bound: what the polynomial p, which goes through the first t + 1 shares, leaves of the others; if more of them than e differ from it, the
-// field decoder at the lowest bit at which any does. The first t + 1 rows of `rest` are zero: nothing is left of the shares that p goes through.
+// One level, if there is a codeword within the error bound: what the polynomial p, which goes through the first t + 1 shares, leaves of the others;
+// if more of them than e differ from it, the field decoder at the lowest bit at which any does. The first t + 1 rows of `rest` are zero: nothing is
+// left of the shares that p goes through.
 fn decode_level(
     k: u64,
     d: usize,

@@ -28,7 +28,7 @@ abbrev row : At-loop-i → Element
 row l = get_or l.args.rest.now (l.loop-i.i - 1) []
 
 six : (l : At-loop-i) → 0 < l.loop-i.i → length (row l) ≡ 6
-six l h = shaped_row l.args.rest.now (l.loop-i.i - 1) l.requires.3 (omega (arith, l.loop-i.invariant.1, l.requires.1))
+six l h = shaped_row l.args.rest.now (l.loop-i.i - 1) l.requires.3 (omega (arith, l.requires.1))
 
 whole : (l : At-loop-i) → 0 < l.loop-i.i → take 6 (row l) ≡ row l
 whole l h = take_all 6 (row l) (le_of_eq (six l h))
@@ -40,7 +40,6 @@ pub loop-i-init : goal.loop-i-init
 loop-i-init c =
     let a = c.args in (
       c.requires.0,
-      omega arith,
       set-start 6 most (differs 64 6 []) a.m a.hs.now a.rest.now c.requires.2,
       bits-start a.m a.hs.now a.rest.now,
     )
@@ -49,13 +48,13 @@ pub overflow_sub-set : goal.overflow_sub-set
 overflow_sub-set c =
     let l = (goal.at.overflow_sub-set c).At-loop-i in
     let a = l.args in
-    omega (arith, holder-low 6 most (differs 64 6 []) a.m a.hs.now a.rest.now l.requires.2 l.loop-i.i (omega arith) l.loop-i.invariant.1)
+    omega (arith, holder-low 6 most (differs 64 6 []) a.m a.hs.now a.rest.now l.requires.2 l.loop-i.i (omega arith) (omega arith))
 
 pub overflow_shl-set : goal.overflow_shl-set
 overflow_shl-set c =
     let l = (goal.at.overflow_shl-set c).At-loop-i in
     let a = l.args in
-    omega (arith, holder-high 6 most (differs 64 6 []) a.m a.hs.now a.rest.now l.requires.2 l.loop-i.i (omega arith) l.loop-i.invariant.1)
+    omega (arith, holder-high 6 most (differs 64 6 []) a.m a.hs.now a.rest.now l.requires.2 l.loop-i.i (omega arith) (omega arith))
 
 pub loop-i-preserved-then-b-ne0 : goal.loop-i-preserved-then-b-ne0
 loop-i-preserved-then-b-ne0 c =
@@ -67,10 +66,9 @@ loop-i-preserved-then-b-ne0 c =
     let i = l.loop-i.i in
     let b = g.gap-b.ensures ∙ bits_at l (omega arith) in (
       omega arith,
-      omega arith,
-      set_more 6 most (differs 64 6 []) a.m h r l.requires.2 i (omega arith) l.loop-i.invariant.1
-          (differs_true (share_at 6 h r (i - 1)) (λ z. c.if-b-ne0.true (b ∙ z))) l.loop-i.set l.loop-i.invariant.2,
-      bits-more a.m h r i (omega arith) l.loop-i.invariant.1 g.gap-b.result l.loop-i.bits b l.loop-i.invariant.3,
+      set_more 6 most (differs 64 6 []) a.m h r l.requires.2 i (omega arith) (omega arith)
+          (differs_true (share_at 6 h r (i - 1)) (λ z. c.if-b-ne0.true (b ∙ z))) l.loop-i.set l.loop-i.invariant.1,
+      bits-more a.m h r i (omega arith) (omega arith) g.gap-b.result l.loop-i.bits b l.loop-i.invariant.2,
     )
 
 pub loop-i-preserved : goal.loop-i-preserved
@@ -83,11 +81,10 @@ loop-i-preserved c =
     let i = l.loop-i.i in
     let b = g.gap-b.ensures ∙ bits_at l (omega arith) in (
       omega arith,
-      omega arith,
-      l.loop-i.invariant.2
-          ∙ set_same 6 most (differs 64 6 []) a.m h r l.requires.2 i (omega arith) l.loop-i.invariant.1
+      l.loop-i.invariant.1
+          ∙ set_same 6 most (differs 64 6 []) a.m h r l.requires.2 i (omega arith) (omega arith)
           (differs_false (share_at 6 h r (i - 1)) (ap length (whole l (omega arith)) ∙ six l (omega arith)) (sym b ∙ c.if-b-ne0.false)),
-      bits-more a.m h r i (omega arith) l.loop-i.invariant.1 g.gap-b.result l.loop-i.bits b l.loop-i.invariant.3,
+      bits-more a.m h r i (omega arith) (omega arith) g.gap-b.result l.loop-i.bits b l.loop-i.invariant.2,
     )
 
 pub returns : goal.returns
@@ -99,9 +96,9 @@ returns c =
     let i = l.loop-i.i in
     let e : i ≤ a.n = omega arith in
     let f = from_end 6 h r 0 a.m refl in (
-      l.loop-i.invariant.2
-          ∙ set_all 6 most (differs 64 6 []) a.m h r l.requires.2 i l.loop-i.invariant.1
+      l.loop-i.invariant.1
+          ∙ set_all 6 most (differs 64 6 []) a.m h r l.requires.2 i (omega arith)
           (λ j k. zero_same a.n a.m l.requires.0 h r l.requires.4 j (omega (arith, k, e)))
           ∙ ap (set_of (differs 64 6 [])) f ∙ sym (error_set-tally 64 6 [] (shares_of 6 a.m h r)),
-      l.loop-i.invariant.3 ∙ bits-all a.n a.m l.requires.0 h r l.requires.4 i e ∙ ap bits_of_all f,
+      l.loop-i.invariant.2 ∙ bits-all a.n a.m l.requires.0 h r l.requires.4 i e ∙ ap bits_of_all f,
     )

@@ -9,7 +9,4 @@ use Rattle.rounds.specs.Residues.{bits_of_all}
 use Rattle.rounds.proofs.compare.Given as goal
 
 abbrev pub invariant-loop-i : goal.invariant-loop-i
-invariant-loop-i l = (l.n ≤ l.i) × (l.i ≤ l.m) × (l.set ≡ set_of (differs 64 6 []) (shares_from 6 l.hs l.rest l.i (l.m - l.i))) × (l.bits ≡ bits_of_all (shares_from 6 l.hs l.rest l.i (l.m - l.i)))
-
-abbrev pub decreases-loop-i : goal.decreases-loop-i
-decreases-loop-i l = l.i
+invariant-loop-i l = (l.n ≤ l.i) × (l.set ≡ set_of (differs 64 6 []) (shares_from 6 l.hs l.rest l.i (l.m - l.i))) × (l.bits ≡ bits_of_all (shares_from 6 l.hs l.rest l.i (l.m - l.i)))

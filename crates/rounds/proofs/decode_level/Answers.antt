@@ -15,10 +15,11 @@ use Rattle.level.specs.Shares.{shares_of}
 use Rattle.rounds.specs.Found.{named, level_found, found_fault, round_fault}
 use Rattle.rounds.specs.Residues.{bits_of_all}
 use Rattle.rounds.specs.declared.Found.{Found}
+use Rattle.std.specs.Prelude.{Option}
 use Rattle.rounds.proofs.Left.{Left, rest-left}
 use Rattle.rounds.proofs.LevelFound.{ones-of, lowest-at, found-few, found-field, told}
 use Rattle.rounds.proofs.decode_level.Goals as goal
-use Rattle.rounds.proofs.decode_level.Goals.{After-compare-c, After-decide-got, After-residues, Else-c-e, Start}
+use Rattle.rounds.proofs.decode_level.Goals.{After-compare-c, After-decide, After-residues, Else-c-e, Start}
 
 abbrev poly : Start → Polynomial
 poly s = coefs s.args.d (suc s.args.t) s.args.p
@@ -91,42 +92,42 @@ low_bit c =
     let l = lowest-at a.d p.1.0 p.1.1 a.k a.t (poly s) (shares s) p.0.1 p.7.0 p.6 (omega (arith, far c)) in
     rw (bits_is (goal.at.Else-c-e c).After-compare-c) (omega (arith, l.room, p.0.1))
 
-pub decide-got-requires : goal.decide-got-requires
-decide-got-requires c =
-    let f = (goal.at.decide-got-requires c).Else-c-e in
+pub decide-requires : goal.decide-requires
+decide-requires c =
+    let f = (goal.at.decide-requires c).Else-c-e in
     let p = f.requires in
     let o = left-of (goal.at.Else-c-e f).After-residues in
     (p.1, low_bit f, p.2, p.3, o.holders, o.sized, omega (arith, p.4))
 
-found : (c : After-decide-got) →
-    (let s = (goal.at.After-decide-got c).Start in
-    named c.decide-got.result ≡ level_found s.args.k s.args.d s.args.t s.args.e (poly s) (shares s))
+found : (c : After-decide) →
+    (let s = (goal.at.After-decide c).Start in
+    named c.decide.result ≡ level_found s.args.k s.args.d s.args.t s.args.e (poly s) (shares s))
 found c =
-    let f = (goal.at.After-decide-got c).Else-c-e in
+    let f = (goal.at.After-decide c).Else-c-e in
     let g = (goal.at.Else-c-e f).After-compare-c in
     let s = (goal.at.After-compare-c g).Start in
     let a = s.args in
     let b = (goal.at.After-compare-c g).After-residues in
     found-field a.k a.d a.t a.e (poly s) (shares s) (far f) (shares_of a.d a.m a.hs.now (rows b)) (left-of b).is
-    g.compare-c.result.bits (bits_is g) c.decide-got.result c.decide-got.ensures.level
+    g.compare-c.result.bits (bits_is g) c.decide.result c.decide.ensures.level
 
-answers : (c : After-decide-got) (r : Found) →
-    (let s = (goal.at.After-decide-got c).Start in
+answers : (c : After-decide) (r : Option Found) →
+    (let s = (goal.at.After-decide c).Start in
     let a = s.args in
     r ≡ level_found a.k a.d a.t a.e (poly s) (shares s) →
     (r ≡ level_found a.k a.d a.t a.e (poly s) (shares s)) × (found_fault r ≡ round_fault a.k a.d a.t a.e (poly s) (shares s)))
 answers c =
-    let s = (goal.at.After-decide-got c).Start in
+    let s = (goal.at.After-decide c).Start in
     told s.args.k s.args.d s.args.t s.args.e (poly s) (shares s)
 
-pub returns-in_default : goal.returns-in_default
-returns-in_default c =
-    let g = (goal.at.returns-in_default c).After-decide-got in
-    let o = left-of (goal.at.After-decide-got g).After-residues in
-    record { found = answers g _ (rw c.in_default.is at (found g)); rest = o.shaped }
+pub returns-in_err-wrong : goal.returns-in_err-wrong
+returns-in_err-wrong c =
+    let g = (goal.at.returns-in_err-wrong c).After-decide in
+    let o = left-of (goal.at.After-decide g).After-residues in
+    record { found = rw c.from_residual.ensures (answers g _ (rw c.in_err-wrong.was at (found g))); rest = o.shaped }
 
 pub returns : goal.returns
 returns c =
-    let g = (goal.at.returns c).After-decide-got in
-    let o = left-of (goal.at.After-decide-got g).After-residues in
-    record { found = answers g _ (rw c.in-Codeword.is at (found g)); rest = o.shaped }
+    let g = (goal.at.returns c).After-decide in
+    let o = left-of (goal.at.After-decide g).After-residues in
+    record { found = answers g _ (rw c.in_ok-wrong.was at (found g)); rest = o.shaped }

@@ -1,37 +1,26 @@
--- `rounds::reduce_rows` meets its contract: after j turns the first j rows are cut. Assumes nothing.
-use native.Mathlib.Omega.{arith}
-use mathlib.Core.Path.{◌≡◌, sym, ◌∙◌}
-use mathlib.Core.List.{map, []}
-use Prim.Native.Nat.{suc, ◌≤◌, ◌<◌}
-use lib.ListN.{get_or, length}
-use lib.Seq.{paste-zero}
+-- `rounds::reduce_rows` meets its contract: after i turns the first i rows are cut. Assumes nothing.
+use Rattle.std.proofs.Common.{◌≡◌, suc, ◌+◌, ◌++◌, map, sym, ◌∙◌, ap, arith, length, take, drop, length-take-le}
+use Rattle.std.proofs.lemmas.List.{length-map, take-map}
+use native.Mathlib.Numerals.{add-one}
 use Rattle.galois.specs.Element.{reduce}
-use Rattle.galois.proofs.Lists.{length-reduce}
-use Rattle.polynomial.proofs.Shape.{shaped-length, shaped_row}
-use Rattle.rounds.proofs.Rows.{shaped-set, reduce-turn, reduce-end}
+use Rattle.words.proofs.Fill.{fill-all}
+use Rattle.rounds.proofs.Rows.{front, reduce-turn, reduce-shaped}
 use Rattle.rounds.proofs.reduce_rows.Goals as goal
-use Rattle.rounds.proofs.reduce_rows.Goals.{At-loop-j}
 
-pub loop-j-init : goal.loop-j-init
-loop-j-init c = (omega arith, c.requires.2, sym (paste-zero c.args.q.now 0 (map (reduce c.args.k) c.args.q.now)))
-
-pub loop-j-preserved : goal.loop-j-preserved
-loop-j-preserved c =
-    let l = (goal.at.loop-j-preserved c).At-loop-j in
-    let q = l.loop-j.q in
-    let j = l.loop-j.j in
-    let h : j < 64 = omega arith in
-    let hp : j < length l.args.q.now = rw (shaped-length l.args.q.now l.requires.2) h in
-    let six : length (reduce l.args.k (get_or q j [])) ≡ 6 = length-reduce l.args.k (get_or q j []) ∙ shaped_row q j l.loop-j.invariant.1 h in
-    rw c.reduce.ensures (
-      omega arith,
-      shaped-set q j (reduce l.args.k (get_or q j [])) l.loop-j.invariant.1 h six,
-      reduce-turn l.args.k l.args.q.now q j hp l.loop-j.invariant.2,
-    )
+pub loop-row-preserved : goal.loop-row-preserved
+loop-row-preserved c =
+    rw c.reduce.ensures
+    (reduce-turn c.args.k (take (c.args.t + 1) c.args.q.now) c.loop-row.row-items c.loop-row.row-index c.loop-row-test.true
+    c.loop-row.invariant)
 
 pub returns : goal.returns
 returns c =
-    let l = (goal.at.returns c).At-loop-j in
-    let e : l.loop-j.j ≡ suc l.args.t = omega arith in
-    let h : suc l.args.t ≤ length l.args.q.now = rw (shaped-length l.args.q.now l.requires.2) (omega arith) in
-    (reduce-end l.args.k l.args.q.now l.loop-j.q (suc l.args.t) h (rw e at l.loop-j.invariant.2), l.loop-j.invariant.1)
+    let k = c.args.k in
+    let n = c.args.t + 1 in
+    let q = c.args.q.now in
+    let r = c.loop-row.row-items in
+    let l : length (take n q) ≡ n = length-take-le n q (omega arith) in
+    let i = c.loop-row.row-index in
+    let e : r ≡ map (reduce k) (take n q) = fill-all (take n q) (map (reduce k) (take n q)) r i c.loop-row.invariant (omega (arith, length-map (take n q) (reduce k))) (omega arith) in
+    let f = front n q (map (reduce k) q) r (omega arith) c.requires.2 (reduce-shaped k q c.requires.2) (e ∙ sym (take-map (reduce k) n q)) in
+    (ap (λ m. take m (r ++ drop n q)) (sym (add-one c.args.t)) ∙ f.0 ∙ ap (λ m. take m (map (reduce k) q)) (add-one c.args.t) ∙ take-map (reduce k) (suc c.args.t) q, f.1)
