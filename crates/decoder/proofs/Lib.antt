@@ -1,3 +1,4 @@
+pub mod Declined
 pub mod Answered
 pub mod Dropped
 pub mod Positions

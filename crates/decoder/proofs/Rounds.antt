@@ -5,8 +5,8 @@
 use mathlib.Core.Path.{◌≡◌, refl, sym, ◌∙◌, ap}
 use mathlib.Core.Bool.{Bool, true, false}
 use mathlib.Core.List.{List, [], ◌∷◌, map}
-use mathlib.Core.Option
-use mathlib.Core.Option.{Option, none, some, none-ne-some, some-injective}
+use mathlib.Core.Option as Perhaps
+use mathlib.Core.Option.{Option as Perhaps, none, some, none-ne-some, some-injective}
 use Prim.Native.Nat.{ℕ, zero, suc, ◌+◌, ◌*◌, ◌-◌, ◌^◌, ◌≤◌, ◌<◌}
 use native.Mathlib.Nat.{add_assoc, zero-add, pow-suc, pow-le-pow_right}
 use native.Mathlib.Omega.{arith}
@@ -27,8 +27,9 @@ use Rattle.rounds.specs.Found.{lowest_bit, level_found}
 use Rattle.decoder.specs.LeftOut.{LeftOut}
 use Rattle.rounds.specs.Residues.{Through}
 use Rattle.rounds.specs.declared.Found.{Found}
-use Rattle.rounds.specs.declared.Found.TheVariants.{Wrong, Nothing}
-use Rattle.rounds.proofs.LevelFound.{by_level, lowest-at}
+use Rattle.std.specs.Prelude.{Option}
+use Rattle.std.specs.declared.option.Option.TheVariants.{Some, None}
+use Rattle.rounds.proofs.LevelFound.{found_wrong, by_level, lowest-at}
 use Rattle.rounds.proofs.Lowest.{Lowest}
 
 -- bit i − 1 for holder i, and the set of all holders
@@ -84,8 +85,8 @@ pub record Sought (k d t e₀ : ℕ) (ss₀ : List Share) (e w : ℕ) (ss : List
   pub width : InWidth k d ss
   pub enough : suc t + 2 * e ≤ length ss
   pub fits : w + holder_set ss < 2 ^ 63
-  pub same : Option.map (λ p. outcome p (error_set k d p ss₀)) (codeword k d t e₀ ss₀)
-      ≡ Option.map (λ p. outcome p (w + error_set k d p ss)) (codeword k d t e ss)
+  pub same : Perhaps.map (λ p. outcome p (error_set k d p ss₀)) (codeword k d t e₀ ss₀)
+      ≡ Perhaps.map (λ p. outcome p (w + error_set k d p ss)) (codeword k d t e ss)
 
 -- after a round that drops the shares of the holders in u
 pub record Jumped (k d t e₀ : ℕ) (ss₀ : List Share) (e w : ℕ) (ss : List Share) (u : ℕ) : Type 0 where
@@ -105,9 +106,9 @@ module _ (k d t e₀ : ℕ) (ss₀ : List Share) where
     After u true = Ends 0 (w + u) q
     After u false = Jumped k d t e₀ ss₀ e w ss u
 
-    abbrev pub Round : Found → Type 0
-    Round (Wrong u all) = (w + u < 2 ^ 63) × After u all
-    Round Nothing = Ends NO_CODEWORD 0 q
+    abbrev pub Round : Option Found → Type 0
+    Round (Some f) = (w + f.wrong < 2 ^ 63) × After f.wrong f.all
+    Round None = Ends NO_CODEWORD 0 q
 
 module _ (d : ℕ) (dl : 2 ≤ d) (dh : d ≤ 6) (k t e₀ : ℕ) (ss₀ : List Share) where
   pub start : Holders d ss₀ → Rising ss₀ → InWidth k d ss₀ → suc t + 2 * e₀ ≤ length ss₀ → Sought k d t e₀ ss₀ e₀ 0 ss₀
@@ -118,16 +119,16 @@ module _ (d : ℕ) (dl : 2 ≤ d) (dh : d ≤ 6) (k t e₀ : ℕ) (ss₀ : List 
         width = w;
         enough = m;
         fits = omega (arith, holder-room d dh ss₀ a u);
-        same = ap (λ (f : Polynomial → Outcome). Option.map f (codeword k d t e₀ ss₀)) (λ i p. outcome p (sym (zero-add (error_set k d p ss₀)) i));
+        same = ap (λ (f : Polynomial → Outcome). Perhaps.map f (codeword k d t e₀ ss₀)) (λ i p. outcome p (sym (zero-add (error_set k d p ss₀)) i));
       }
 
   module _ (e w : ℕ) (ss : List Share) (r : Sought k d t e₀ ss₀ e w ss) where
     -- the two ends
     found_some : (p : Polynomial) → codeword k d t e ss ≡ some p → (codeword k d t e₀ ss₀ ≡ some p) × (error_set k d p ss₀ ≡ w + error_set k d p ss)
     found_some p x =
-        go (codeword k d t e₀ ss₀) (r.same ∙ ap (Option.map (λ q. outcome q (w + error_set k d q ss))) x)
+        go (codeword k d t e₀ ss₀) (r.same ∙ ap (Perhaps.map (λ q. outcome q (w + error_set k d q ss))) x)
       where
-        go : (o : Option Polynomial) → Option.map (λ q. outcome q (error_set k d q ss₀)) o ≡ some (outcome p (w + error_set k d p ss)) →
+        go : (o : Perhaps Polynomial) → Perhaps.map (λ q. outcome q (error_set k d q ss₀)) o ≡ some (outcome p (w + error_set k d p ss)) →
             (o ≡ some p) × (error_set k d p ss₀ ≡ w + error_set k d p ss)
         go none y = absurd (none-ne-some (outcome p (w + error_set k d p ss)) y)
         go (some q) y =
@@ -136,9 +137,9 @@ module _ (d : ℕ) (dl : 2 ≤ d) (dh : d ≤ 6) (k t e₀ : ℕ) (ss₀ : List 
             (ap some s, ap (λ u. error_set k d u ss₀) (sym s) ∙ ap (λ (u : Outcome). u.1) z)
 
     found_none : codeword k d t e ss ≡ none → codeword k d t e₀ ss₀ ≡ none
-    found_none x = go (codeword k d t e₀ ss₀) (r.same ∙ ap (Option.map (λ q. outcome q (w + error_set k d q ss))) x)
+    found_none x = go (codeword k d t e₀ ss₀) (r.same ∙ ap (Perhaps.map (λ q. outcome q (w + error_set k d q ss))) x)
       where
-        go : (o : Option Polynomial) → Option.map (λ q. outcome q (error_set k d q ss₀)) o ≡ none → o ≡ none
+        go : (o : Perhaps Polynomial) → Perhaps.map (λ q. outcome q (error_set k d q ss₀)) o ≡ none → o ≡ none
         go none y = refl
         go (some q) y = absurd (none-ne-some (outcome q (error_set k d q ss₀)) (sym y))
 
@@ -147,7 +148,7 @@ module _ (d : ℕ) (dl : 2 ≤ d) (dh : d ≤ 6) (k t e₀ : ℕ) (ss₀ : List 
       P = coefs d (suc t) q
 
       -- few enough differ
-      ends : errors k d P ss ≤ e → Round k d t e₀ ss₀ e w ss q (Wrong (error_set k d P ss) true)
+      ends : errors k d P ss ≤ e → Round k d t e₀ ss₀ e w ss q (found_wrong (error_set k d P ss) true)
       ends h =
           let f = found_some P (codeword-complete d dl dh k t e ss P r.holders r.enough th.0 h) in
           (omega (arith, r.fits, error_set-le k d P ss), rw f.0 (refl, sym f.1))
@@ -163,7 +164,7 @@ module _ (d : ℕ) (dl : 2 ≤ d) (dh : d ≤ 6) (k t e₀ : ℕ) (ss₀ : List 
         at : Lowest k d P ss v
         at = lowest-at d dl dh k t P ss kh th.0 r.width (omega arith)
 
-        nothing : codeword 1 d t e W ≡ none → Round k d t e₀ ss₀ e w ss q Nothing
+        nothing : codeword 1 d t e W ≡ none → Round k d t e₀ ss₀ e w ss q None
         nothing x =
             rw (found_none (jump-none d dl dh k t e ss P v r.holders r.width r.enough th.0 at.room at.agree x)) (refl, refl)
 
@@ -206,14 +207,14 @@ module _ (d : ℕ) (dl : 2 ≤ d) (dh : d ≤ 6) (k t e₀ : ℕ) (ss₀ : List 
                     r.same
                     ∙ rw ones-u
                     (jump-with d dl dh k t e ss P v r.holders r.width r.enough th.0 at.room at.agree g x (λ p n. outcome p (w + n))
-                    ∙ ap (λ (f : Polynomial → Outcome). Option.map f (codeword k d t (e - errors 1 d g W) (without u ss)))
+                    ∙ ap (λ (f : Polynomial → Outcome). Perhaps.map f (codeword k d t (e - errors 1 d g W) (without u ss)))
                     (λ i p. outcome p (sym (add_assoc w u (error_set k d p (without u ss))) i)));
               }
 
-          jumped : Round k d t e₀ ss₀ e w ss q (Wrong u false)
+          jumped : Round k d t e₀ ss₀ e w ss q (found_wrong u false)
           jumped = (omega (arith, r.fits, parts), record { within = rw ones-u within; drops = dropped; next = after })
 
-      pub round : k ≤ 64 → (result got : Found) → result ≡ level_found k d t e P ss → result ≡ got → Round k d t e₀ ss₀ e w ss q got
+      pub round : k ≤ 64 → (result got : Option Found) → result ≡ level_found k d t e P ss → result ≡ got → Round k d t e₀ ss₀ e w ss q got
       round kh result got x y = rw (sym y ∙ x) (by_level k d t e P ss (Round k d t e₀ ss₀ e w ss q) ends (nothing kh) (jumped kh))
 
   -- the first round
@@ -232,7 +233,7 @@ module _ (d : ℕ) (dl : 2 ≤ d) (dh : d ≤ 6) (k t e₀ : ℕ) (ss₀ : List 
       same : codeword k d t e₀ ss₀ ≡ codeword k d t e rs
       same = go (codeword k d t e rs) refl
         where
-          go : (o : Option Polynomial) → codeword k d t e rs ≡ o → codeword k d t e₀ ss₀ ≡ o
+          go : (o : Perhaps Polynomial) → codeword k d t e rs ≡ o → codeword k d t e₀ ss₀ ≡ o
           go none x = found_none e (0 + w) rs n x
           go (some p) x = (found_some e (0 + w) rs n p x).0
 

@@ -4,7 +4,7 @@
 // first. The caller's shares stay as they are: it is from copies that any are dropped, and where none has to be nothing is copied.
 #![tactic(auto)]
 
-ghost use Rattle.std.specs.Prelude.{◌≡◌, true, [], ◌∷◌, ℕ, suc, ◌+◌, ◌*◌, ◌≤◌, ◌<◌, length, take, get_or, replicate};
+ghost use Rattle.std.specs.Prelude.{◌≡◌, true, [], ◌∷◌, ℕ, suc, ◌+◌, ◌*◌, ◌≤◌, ◌<◌, length, take, get_or, replicate, IfOk};
 ghost use Rattle.polynomial.specs.Rows.{Shaped, coefs};
 ghost use Rattle.comparison.specs.Comparison.{position_of};
 ghost use Rattle.codewords.specs.Codeword.{wide_set, error_set, comparison, positions, codeword};
@@ -17,7 +17,6 @@ ghost use Rattle.words.specs.Refusal.{fault_in, kept};
 ghost use Rattle.decoder.specs.Decoded.{Ordered, wrong_in};
 ghost use Rattle.decoder.specs.LeftOut.{LeftOut};
 
-use rounds::Found;
 use words::Refusal;
 
 // Drops the shares of the holders in w; the others move up, in order. Each share is written to the next place, which counts only if the
@@ -29,13 +28,11 @@ fn drop_wrong(w: u64, m: usize, hs: &mut [u64; 63], ys: &mut [[u64; 6]; 63]) -> 
         × (result ≤ m) × (length hs.new ≡ 63) × (length ys.new ≡ 63) }
 {
     let mut j = 0;
-    let mut i = 0;
-    while i < m {
+    for i in 0..m {
         let x = hs[i];
         hs[j] = x;
         ys[j] = ys[i];
         j += 1 - ((w >> (x - 1)) % 2) as usize;
-        i += 1;
     }
     j
 }
@@ -56,13 +53,11 @@ fn copy_others(
         × (result ≤ m) × (length holders.new ≡ 63) × (length shares.new ≡ 63) }
 {
     let mut j = 0;
-    let mut i = 0;
-    while i < m {
+    for i in 0..m {
         let x = hs[i];
         holders[j] = x;
         shares[j] = ys[i];
         j += 1 - ((w >> (x - 1)) % 2) as usize;
-        i += 1;
     }
     j
 }
@@ -93,17 +88,14 @@ fn search(
     let mut bound = e;
     let mut count = m;
     loop {
-        let got = rounds::round(k, d, t, count, hs, ys, bound, rows);
-        let Some(Found { wrong: w, all }) = got else {
-            return Err(Refusal::NoCodeword);
-        };
-        wrong += w;
-        if all {
+        let found = rounds::round(k, d, t, count, hs, ys, bound, rows).ok_or(Refusal::NoCodeword)?;
+        wrong += found.wrong;
+        if found.all {
             return Ok(wrong);
         }
-        let errors = u64::count_ones(w) as u64;
+        let errors = u64::count_ones(found.wrong) as u64;
         bound -= errors;
-        count = drop_wrong(w, count, hs, ys);
+        count = drop_wrong(found.wrong, count, hs, ys);
     }
 }
 
@@ -159,14 +151,11 @@ fn search_lent(
         (from_codeword (codeword k d t e (shares_of d m hs.now ys.now))) }
     ensures shaped { Shaped rows.new }
 {
-    let got = rounds::round(k, d, t, m, hs, ys, e, rows);
-    let Some(Found { wrong, all }) = got else {
-        return Err(Refusal::NoCodeword);
-    };
-    if all {
-        return Ok(wrong);
+    let found = rounds::round(k, d, t, m, hs, ys, e, rows).ok_or(Refusal::NoCodeword)?;
+    if found.all {
+        return Ok(found.wrong);
     }
-    search_without(k, d, t, m, hs, ys, wrong, e, rows)
+    search_without(k, d, t, m, hs, ys, found.wrong, e, rows)
 }
 
 // The holders whose shares have a wide word.
@@ -176,12 +165,10 @@ fn wide_by(k: u64, d: usize, m: usize, hs: &[u64; 63], ys: &[[u64; 6]; 63]) -> u
     ensures { result ≡ wide_set k (shares_of d m hs.now ys.now) }
 {
     let mut set: u64 = 0;
-    let mut i = m;
-    while 0 < i {
-        i -= 1;
+    for i in (0..m).rev() {
         let u = ring::keep(d, ys[i]);
         if !words::in_width(k, u[0] | (u[1] | (u[2] | (u[3] | (u[4] | u[5]))))) {
-            set = set | (1u64 << (hs[i] - 1));
+            set |= 1u64 << (hs[i] - 1);
         }
     }
     set
@@ -262,11 +249,7 @@ fn clear_positions(lowest: &mut [u8])
     requires { length lowest.old ≡ lowest_room }
     ensures { lowest.new ≡ replicate lowest_room 255 }
 {
-    let mut i: usize = 0;
-    while i < 64 {
-        lowest[i] = comparison::NONE;
-        i += 1;
-    }
+    lowest.fill(comparison::NONE);
 }
 
 // The position of holder x's share: where it differs from the value of the polynomial in the rows, of degree at most t.
@@ -312,9 +295,7 @@ pub fn lowest_bits(
     if wrong == 0 {
         return;
     }
-    let mut i = m;
-    while 0 < i {
-        i -= 1;
+    for i in (0..m).rev() {
         let x = holders[i];
         if (wrong >> (x - 1)) % 2 == 1 {
             lowest[(x - 1) as usize] = position_of(p.k, p.d, p.t, rows, x, shares[i]);
@@ -324,6 +305,7 @@ pub fn lowest_bits(
 
 // Hands out what is opened from m shares: the job's words, which are the free term's, into an output of d words, the wrong holders into one of one
 // word, their positions into one of 64 bytes; the outputs stay where it is refused.
+#[tactic(auto, using(words::proofs::Refusals::refusals))]
 pub fn hand_out(
     p: words::Params,
     m: usize,

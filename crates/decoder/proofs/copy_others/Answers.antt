@@ -13,7 +13,7 @@ use Rattle.decoder.proofs.copy_others.Goals.{At-loop-i}
 pub loop-i-init : goal.loop-i-init
 loop-i-init c =
     let a = c.args in
-    (omega arith, omega arith, c.requires.3, c.requires.4, λ d. copy_start d a.w a.hs.now a.ys.now a.m a.holders.now a.shares.now)
+    (omega arith, c.requires.3, c.requires.4, λ d. copy_start d a.w a.hs.now a.ys.now a.m a.holders.now a.shares.now)
 
 -- a holder's bit is one of a word's
 range : (l : At-loop-i) → l.loop-i.i < l.args.m →
@@ -34,19 +34,18 @@ loop-i-preserved c =
     let i = c.loop-i.i in
     let j = c.loop-i.j in (
       omega arith,
-      omega arith,
-      length-set c.loop-i.holders j (get_or hs i 0) ∙ c.loop-i.invariant.2,
-      length-set c.loop-i.shares j (get_or ys i []) ∙ c.loop-i.invariant.3,
+      length-set c.loop-i.holders j (get_or hs i 0) ∙ c.loop-i.invariant.1,
+      length-set c.loop-i.shares j (get_or ys i []) ∙ c.loop-i.invariant.2,
       λ d. copy-turn d a.w hs ys a.m i (omega arith) c.loop-i.holders c.loop-i.shares j (get_or hs i 0) (get_or ys i []) refl (omega arith)
-          (omega arith) (without a.w (shares_of d a.m hs ys)) (c.loop-i.invariant.4 d),
+          (omega arith) (without a.w (shares_of d a.m hs ys)) (c.loop-i.invariant.3 d),
     )
 
 pub returns : goal.returns
 returns c =
     let a = c.args in (
       λ d. drop-end d a.w a.hs.now a.ys.now c.loop-i.i a.m (omega arith) (shares_of d c.loop-i.j c.loop-i.holders c.loop-i.shares)
-          (without a.w (shares_of d a.m a.hs.now a.ys.now)) (c.loop-i.invariant.4 d),
+          (without a.w (shares_of d a.m a.hs.now a.ys.now)) (c.loop-i.invariant.3 d),
       omega arith,
+      c.loop-i.invariant.1,
       c.loop-i.invariant.2,
-      c.loop-i.invariant.3,
     )

@@ -13,14 +13,14 @@ use Rattle.decoder.proofs.drop_wrong.Goals.{At-loop-i}
 pub loop-i-init : goal.loop-i-init
 loop-i-init c =
     let a = c.args in
-    (omega arith, omega arith, c.requires.1, c.requires.2, λ d. refl, λ d. drop-start d a.w a.hs.now a.ys.now a.m)
+    (omega arith, c.requires.1, c.requires.2, λ d. refl, λ d. drop-start d a.w a.hs.now a.ys.now a.m)
 
 -- a holder's bit is one of a word's
 range : (l : At-loop-i) → l.loop-i.i < l.args.m →
     (1 ≤ get_or l.loop-i.hs l.loop-i.i 0) × (get_or l.loop-i.hs l.loop-i.i 0 ≤ 63)
 range l h =
     let a = l.args in
-    holder-range 0 a.w a.hs.now a.ys.now a.m l.loop-i.hs l.loop-i.ys l.loop-i.i h (l.loop-i.invariant.4 0)
+    holder-range 0 a.w a.hs.now a.ys.now a.m l.loop-i.hs l.loop-i.ys l.loop-i.i h (l.loop-i.invariant.3 0)
     (l.requires.3 l.loop-i.i h)
 
 pub overflow_sub-j : goal.overflow_sub-j
@@ -43,12 +43,11 @@ loop-i-preserved c =
     let j = l.loop-i.j in
     let h : i < a.m = omega arith in (
       omega arith,
-      omega arith,
-      length-set hs j (get_or hs i 0) ∙ l.loop-i.invariant.2,
-      length-set ys j (get_or ys i []) ∙ l.loop-i.invariant.3,
-      λ d. drop-same d a.w a.hs.now a.ys.now a.m hs ys i h (l.loop-i.invariant.4 d) j l.loop-i.invariant.0,
-      λ d. drop-turn d a.w a.hs.now a.ys.now a.m hs ys i h (l.loop-i.invariant.4 d) j l.loop-i.invariant.0 (omega arith) (omega arith)
-          (without a.w (shares_of d a.m a.hs.now a.ys.now)) (l.loop-i.invariant.5 d),
+      length-set hs j (get_or hs i 0) ∙ l.loop-i.invariant.1,
+      length-set ys j (get_or ys i []) ∙ l.loop-i.invariant.2,
+      λ d. drop-same d a.w a.hs.now a.ys.now a.m hs ys i h (l.loop-i.invariant.3 d) j l.loop-i.invariant.0,
+      λ d. drop-turn d a.w a.hs.now a.ys.now a.m hs ys i h (l.loop-i.invariant.3 d) j l.loop-i.invariant.0 (omega arith) (omega arith)
+          (without a.w (shares_of d a.m a.hs.now a.ys.now)) (l.loop-i.invariant.4 d),
     )
 
 pub returns : goal.returns
@@ -56,8 +55,8 @@ returns c =
     let l = (goal.at.returns c).At-loop-i in
     let a = l.args in (
       λ d. drop-end d a.w a.hs.now a.ys.now l.loop-i.i a.m (omega arith) (shares_of d l.loop-i.j l.loop-i.hs l.loop-i.ys)
-          (without a.w (shares_of d a.m a.hs.now a.ys.now)) (l.loop-i.invariant.5 d),
+          (without a.w (shares_of d a.m a.hs.now a.ys.now)) (l.loop-i.invariant.4 d),
       omega arith,
+      l.loop-i.invariant.1,
       l.loop-i.invariant.2,
-      l.loop-i.invariant.3,
     )

@@ -37,7 +37,7 @@ named l h =
     let s = S l in
     let a = s.args in
     holder_in a.p.d (range s).d-high a.p.k (poly s) a.m a.holders.now a.shares.now (holders s) a.wrong s.requires.5 l.loop-i.i h
-    l.loop-i.invariant.0
+    (omega arith)
 
 pub returns-then-wrong-eq0 : goal.returns-then-wrong-eq0
 returns-then-wrong-eq0 c =
@@ -52,7 +52,6 @@ loop-i-init c =
     let e = f.clear_positions.ensures in
     let s = (goal.at.After-clear_positions f).Start in
     let a = s.args in (
-      omega arith,
       ap length e ∙ length-replicate {A = ℕ} 64 255,
       e ∙ positions-start a.p.d (range s).d-high a.p.k (poly s) a.m a.holders.now a.shares.now (holders s) a.wrong s.requires.5,
     )
@@ -75,17 +74,16 @@ overflow_sub-lowest c = (named (goal.at.overflow_sub-lowest c).At-loop-i (omega 
 pub bounds-lowest-x : goal.bounds-lowest-x
 bounds-lowest-x c =
     let l = (goal.at.bounds-lowest-x c).At-loop-i in
-    omega (arith, named l (omega arith), l.loop-i.invariant.1)
+    omega (arith, named l (omega arith), l.loop-i.invariant.0)
 
 pub loop-i-preserved-then-wrong-x-eq1 : goal.loop-i-preserved-then-wrong-x-eq1
 loop-i-preserved-then-wrong-x-eq1 c =
     let l = (goal.at.loop-i-preserved-then-wrong-x-eq1 c).At-loop-i in
     let s = S l in
     let a = s.args in (
-      omega (arith, l.loop-i.invariant.0),
-      length-set l.loop-i.lowest _ _ ∙ l.loop-i.invariant.1,
+      length-set l.loop-i.lowest _ _ ∙ l.loop-i.invariant.0,
       put_in a.p.d (range s).d-high a.p.k (poly s) a.m a.holders.now a.shares.now (holders s) a.wrong s.requires.5 l.loop-i.i
-          (omega arith) l.loop-i.invariant.0 l.loop-i.lowest l.loop-i.invariant.2 c.position_of.result c.position_of.ensures,
+          (omega arith) (omega arith) l.loop-i.lowest l.loop-i.invariant.1 c.position_of.result c.position_of.ensures,
     )
 
 pub loop-i-preserved : goal.loop-i-preserved
@@ -93,11 +91,10 @@ loop-i-preserved c =
     let l = (goal.at.loop-i-preserved c).At-loop-i in
     let s = S l in
     let a = s.args in (
-      omega (arith, l.loop-i.invariant.0),
-      l.loop-i.invariant.1,
-      l.loop-i.invariant.2
+      l.loop-i.invariant.0,
+      l.loop-i.invariant.1
           ∙ left_out a.p.d (range s).d-high a.p.k (poly s) a.m a.holders.now a.shares.now (holders s) a.wrong s.requires.5 l.loop-i.i
-          (omega arith) l.loop-i.invariant.0 c.if-wrong-x-eq1.false,
+          (omega arith) (omega arith) c.if-wrong-x-eq1.false,
     )
 
 pub returns : goal.returns
@@ -106,4 +103,4 @@ returns c =
     let s = S l in
     let a = s.args in
     let e : l.loop-i.i ≡ 0 = omega arith in
-    l.loop-i.invariant.2 ∙ ap (positions a.p.k a.p.d (poly s)) (from_end a.p.d a.holders.now a.shares.now l.loop-i.i a.m e)
+    l.loop-i.invariant.1 ∙ ap (positions a.p.k a.p.d (poly s)) (from_end a.p.d a.holders.now a.shares.now l.loop-i.i a.m e)

@@ -8,10 +8,10 @@ use Rattle.level.specs.Shares.{shares_of}
 use Rattle.decoder.proofs.Rounds.{Sought}
 use Rattle.decoder.proofs.search.Given as goal
 
-abbrev pub invariant-loop-w : goal.invariant-loop-w
-invariant-loop-w l = (l.count ≤ 63) × (length l.hs ≡ 63) × (length l.ys ≡ 63)
+abbrev pub invariant-loop-found : goal.invariant-loop-found
+invariant-loop-found l = (l.count ≤ 63) × (length l.hs ≡ 63) × (length l.ys ≡ 63)
     × Sought l.k l.d l.t l.e (shares_of l.d l.m l.initial.hs l.initial.ys) l.bound l.wrong (shares_of l.d l.count l.hs l.ys)
     × Shaped l.rows
 
-abbrev pub decreases-loop-w : goal.decreases-loop-w
-decreases-loop-w l = l.bound
+abbrev pub decreases-loop-found : goal.decreases-loop-found
+decreases-loop-found l = l.bound

@@ -18,7 +18,7 @@ use Rattle.decoder.proofs.wide_by.Goals as goal
 use Rattle.decoder.proofs.wide_by.Goals.{After-in_width, At-loop-i, Then-not-in_width}
 
 pub loop-i-init : goal.loop-i-init
-loop-i-init c = let a = c.args in (omega arith, set-start a.d c.requires.0 (wide a.k) a.m a.hs.now a.ys.now c.requires.2)
+loop-i-init c = let a = c.args in set-start a.d c.requires.0 (wide a.k) a.m a.hs.now a.ys.now c.requires.2
 
 -- the row that is looked at, by its words together
 row-width : (l : At-loop-i) → 0 < l.loop-i.i →
@@ -27,13 +27,13 @@ row-width : (l : At-loop-i) → 0 < l.loop-i.i →
 row-width l h =
     let a = l.args in
     width-six a.k a.d (get_or a.ys.now (l.loop-i.i - 1) []) l.requires.0
-    (sized-at a.d a.hs.now a.ys.now a.m (l.loop-i.i - 1) l.requires.3 (omega (arith, l.loop-i.invariant.0)))
+    (sized-at a.d a.hs.now a.ys.now a.m (l.loop-i.i - 1) l.requires.3 (omega arith))
 
 pub overflow_sub-set : goal.overflow_sub-set
 overflow_sub-set c =
     let a = c.args in
     holder-low a.d c.requires.0 (wide a.k) a.m a.hs.now a.ys.now c.requires.2 c.loop-i.i (omega arith)
-    c.loop-i.invariant.0
+    (omega arith)
 
 pub overflow_shl-set : goal.overflow_shl-set
 overflow_shl-set c =
@@ -41,7 +41,7 @@ overflow_shl-set c =
     omega (
       arith,
       holder-high a.d c.requires.0 (wide a.k) a.m a.hs.now a.ys.now c.requires.2 c.loop-i.i (omega arith)
-          c.loop-i.invariant.0,
+          (omega arith),
     )
 
 pub loop-i-preserved-then-not-in_width : goal.loop-i-preserved-then-not-in_width
@@ -52,11 +52,9 @@ loop-i-preserved-then-not-in_width c =
     let a = l.args in
     let e : all_in_width a.k (take a.d (get_or a.ys.now (l.loop-i.i - 1) [])) ≡ false =
     sym (row-width l (omega arith)) ∙ ap (λ (u : Element). in_width a.k (six_bits u)) (sym w.keep-u.ensures) ∙ sym w.in_width.ensures
-    ∙ c.if-not-in_width.true in (
-      omega (arith, l.loop-i.invariant.0),
-      set_more a.d l.requires.0 (wide a.k) a.m a.hs.now a.ys.now l.requires.2 l.loop-i.i (omega arith)
-          l.loop-i.invariant.0 (ap not e) l.loop-i.set l.loop-i.invariant.1,
-    )
+    ∙ c.if-not-in_width.true in
+    set_more a.d l.requires.0 (wide a.k) a.m a.hs.now a.ys.now l.requires.2 l.loop-i.i (omega arith)
+    (omega arith) (ap not e) l.loop-i.set l.loop-i.invariant
 
 pub loop-i-preserved : goal.loop-i-preserved
 unfolding wide
@@ -66,16 +64,14 @@ loop-i-preserved c =
     let a = l.args in
     let e : all_in_width a.k (take a.d (get_or a.ys.now (l.loop-i.i - 1) [])) ≡ true =
     sym (row-width l (omega arith)) ∙ ap (λ (u : Element). in_width a.k (six_bits u)) (sym w.keep-u.ensures) ∙ sym w.in_width.ensures
-    ∙ c.if-not-in_width.false in (
-      omega (arith, l.loop-i.invariant.0),
-      l.loop-i.invariant.1
-          ∙ set_same a.d l.requires.0 (wide a.k) a.m a.hs.now a.ys.now l.requires.2 l.loop-i.i (omega arith)
-          l.loop-i.invariant.0 (ap not e),
-    )
+    ∙ c.if-not-in_width.false in
+    l.loop-i.invariant
+    ∙ set_same a.d l.requires.0 (wide a.k) a.m a.hs.now a.ys.now l.requires.2 l.loop-i.i (omega arith)
+    (omega arith) (ap not e)
 
 pub returns : goal.returns
 returns c =
     let a = c.args in
-    c.loop-i.invariant.1
+    c.loop-i.invariant
     ∙ ap (set_of (wide a.k)) (from_end a.d a.hs.now a.ys.now c.loop-i.i a.m (omega arith))
     ∙ sym (wide-tally a.k (shares_of a.d a.m a.hs.now a.ys.now))
