@@ -1,6 +1,5 @@
--- What accepted files and bundles are: each file at its place, with no fault, and the last at the end; and what the answer of accepting says.
--- Assumes nothing.
-use mathlib.Core.Path.{◌≡◌, refl, sym, ap, subst, ◌∙◌}
+-- What accepted files and bundles are: each file at its place, with no fault, and the last at the end. Assumes nothing.
+use mathlib.Core.Path.{◌≡◌, sym, subst, ◌∙◌}
 use Prim.Native.Nat.{ℕ, zero, suc, ◌+◌, ◌-◌, ◌*◌, ◌^◌, ◌≤◌, ◌<◌}
 use native.Mathlib.Nat.{mul-le-mul_right, pow-le-pow_right}
 use native.Mathlib.Omega.{arith}
@@ -10,14 +9,13 @@ use lib.ListN.{length}
 use lib.Dec.{ltb, lit<}
 use borrow.Author.Tests.{lt-ltb, ltb-true}
 use Rattle.words.specs.Refusal.{unless, first_of}
-use Rattle.words.proofs.Refusals.{first-left, first-right, unless-held, first_of-each, kept-none}
+use Rattle.words.proofs.Refusals.{first-left, first-right, unless-held, first_of-each}
 use Rattle.records.specs.Layout.{record_size, head_size, job_len, job_size, file_size, order_kind, order_len, order_size}
 use Rattle.records.specs.Record.{framed, heading_of}
 use Rattle.bundle.specs.Bundle.{num_of, prev_num, job_fault, file_fault_at, place_at, prev_holder, files_in, fault_of_file, files_fault, bundle_fault}
-use Rattle.bundle.specs.Bundle.{bundle_heading, files_of, file_at, job_at, no_heading, accepted}
+use Rattle.bundle.specs.Bundle.{bundle_heading, files_of, file_at, job_at}
 use Rattle.bundle.specs.Acceptance.{Same, FileOk, FilesOk}
 pub use Rattle.bundle.specs.Acceptance.{BundleOk}
-use Rattle.bundle.specs.declared.Accepted.{Accepted}
 use Rattle.records.specs.declared.Heading.{Heading}
 use Rattle.records.proofs.Lengths.{head-low, file-low}
 use Rattle.records.proofs.Record.{framed-frame}
@@ -117,38 +115,6 @@ module _ (bs : List ℕ) (start : ℕ) (a : FilesOk bs start) where
       let u : (heading_of bs (place_at bs start f)).holder ≤ (heading_of bs (place_at bs start f)).params.n = (file-at f h).heading.within in
       let w : (heading_of bs (place_at bs start f)).holder ≤ (heading_of bs start).params.n = rw (same_at f h).params_is u in
       omega (arith, holder-low f h)
-
--- ---- the answer of accepting, case by case
-
-module _ (bs : List ℕ) where
-  pub accepted-refused : (c : ℕ) → c ≡ bundle_fault bs → (c ≡ 0 → ⊥) → record { fault = c; files = 0; heading = no_heading } ≡ accepted bs
-  unfolding accepted
-  accepted-refused zero e n = absurd (n refl)
-  accepted-refused (suc c) e n = rw (sym e)
-
-  pub accepted-whole : (files : ℕ) (h : Heading) → bundle_fault bs ≡ 0 → files ≡ files_of bs → h ≡ bundle_heading bs →
-      record { fault = 0; files = files; heading = h } ≡ accepted bs
-  unfolding accepted
-  accepted-whole files h z f e = rw (z, f, e)
-
-module _ (bs : List ℕ) (r : Accepted) (e : r ≡ accepted bs) where
-  -- where it refuses
-  pub accept-fault : r.fault ≡ bundle_fault bs
-  unfolding accepted
-  accept-fault = ap (λ (a : Accepted). a.fault) e
-
-  -- where it does not
-  module _ (z : r.fault ≡ 0) where
-    pub accept-none : bundle_fault bs ≡ 0
-    accept-none = sym accept-fault ∙ z
-
-    pub accept-files : r.files ≡ files_of bs
-    unfolding accepted
-    accept-files = ap (λ (a : Accepted). a.files) e ∙ kept-none (bundle_fault bs) 0 (files_of bs) accept-none
-
-    pub accept-heading : r.heading ≡ bundle_heading bs
-    unfolding accepted
-    accept-heading = ap (λ (a : Accepted). a.heading) e ∙ kept-none (bundle_fault bs) no_heading (bundle_heading bs) accept-none
 
 -- ---- a bundle by file and place
 

@@ -1,15 +1,16 @@
 -- Laws of the fault of one heading and of one job: each case, and what no fault says. Assumes nothing.
 use mathlib.Core.Path.{◌≡◌, refl, ap, ap₂, ◌∙◌}
-use Prim.Native.Nat.{ℕ, ◌+◌, ◌*◌, ◌≤◌, ◌<◌}
+use Prim.Native.Nat.{ℕ, zero, suc, ◌+◌, ◌*◌, ◌≤◌, ◌<◌}
 use mathlib.Core.List.{List}
-use mathlib.Core.Bool.{true, false, ◌||◌}
+use mathlib.Core.Bool.{Bool, true, false, ◌&&◌, ◌||◌}
 use lib.Dec.{ltb, eqb, lit<}
 use borrow.Author.Tests.{le-leb, lt-ltb, eq-eqb, leb-true, ltb-true, eqb-true}
-use Rattle.words.specs.Refusal.{first, unless}
+use Rattle.words.specs.Refusal.{number_of, first, unless}
 use Rattle.words.specs.Params.{params_ok}
 use Rattle.words.specs.declared.Params.{Params}
 use Rattle.words.proofs.Tests.{and_left, and_right, and_both, and_yes, and_no}
-use Rattle.words.proofs.Refusals.{pass, stop, first-left, first-right, unless-held, unless-yes}
+use Rattle.words.specs.declared.Refusal.{Refusal}
+use Rattle.words.proofs.Refusals.{number-some, first-assoc, pass, stop, first-left, first-right, unless-held, unless-yes}
 use Rattle.words.proofs.InRange.{InRange, ok-range}
 use Rattle.records.specs.Layout.{record_size, head_kind, head_len, head_size, word_size, job_kind, job_len_of, job_len, file_size}
 use Rattle.records.specs.Record.{framed, Frame, heading_of}
@@ -17,6 +18,22 @@ use Rattle.bundle.specs.Bundle.{most_jobs, ranges_ok, holder_ok, same_params, be
 use Rattle.bundle.specs.Acceptance.{Same, HeadingOk}
 use Rattle.records.specs.declared.Heading.{Heading}
 use Rattle.records.proofs.Record.{framed-frame, frame-framed}
+
+-- ---- tests
+
+-- a refusal of a test says that it failed
+pub test_refused : (e : Refusal) (t : Bool) (c : ℕ) → number_of e ≡ unless t c → (t ≡ false) × (number_of e ≡ c)
+unfolding unless
+test_refused e true c h = absurd (number-some e h)
+test_refused e false c h = (refl, h)
+
+-- two tests of one fault, in turn
+pub test-both : (a b : Bool) (c : ℕ) → unless (a && b) c ≡ first (unless a c) (unless b c)
+unfolding unless first
+test-both true b c = refl
+test-both false true zero = refl
+test-both false false zero = refl
+test-both false b (suc c) = refl
 
 -- ---- ranges and belonging, as tests and as facts
 
@@ -154,6 +171,15 @@ module _ (bs : List ℕ) (len base prev p at : ℕ) where
         job_fault_at bs len base prev p at ≡ unless (eqb (num_of bs base) (num_of bs at)) 8
     unfolding job_fault_at
     job-8 r = pass _ 7 _ (and_both _ _ f r)
+
+-- its tests in turn
+pub job_split : (bs : List ℕ) (len base prev p at : ℕ) → job_fault_at bs len base prev p at
+    ≡ first (unless (framed bs job_kind len at) 7) (first (unless (eqb p 0 || ltb prev (num_of bs at)) 7) (unless (eqb (num_of bs base) (num_of bs at)) 8))
+unfolding job_fault_at
+job_split bs len base prev p at =
+    let r = eqb p 0 || ltb prev (num_of bs at) in
+    let e = unless (eqb (num_of bs base) (num_of bs at)) 8 in
+    ap (λ (x : ℕ). first x e) (test-both (framed bs job_kind len at) r 7) ∙ first-assoc (unless (framed bs job_kind len at) 7) (unless r 7) e
 
 -- what a job record with no fault says
 pub record JobOk (bs : List ℕ) (len base prev p at : ℕ) : Type 0 where

@@ -54,6 +54,7 @@ fn belong(a: Heading, b: Heading) -> bool
 }
 
 // Tests the heading at a position, where the first file stands at base, and gives it.
+#[tactic(auto, using(words::proofs::Refusals::refusals), unfolding(crate::specs::Bundle::heading_fault, records::specs::Layout::head_kind, records::specs::Layout::head_len))]
 fn check_heading(bytes: &[u8], base: usize, prev: usize, at: usize) -> Result<Heading, Refusal>
     requires { (base ≤ at) × (at ≤ length bytes.now) }
     ensures fault { fault_in result ≡ heading_fault bytes.now base prev at }
@@ -64,7 +65,10 @@ fn check_heading(bytes: &[u8], base: usize, prev: usize, at: usize) -> Result<He
     let h = records::heading_at(bytes, at);
     words::unless(ranges_ok(h), Refusal::Parameters)?;
     words::unless(holder_ok(prev, h), Refusal::Holder)?;
-    words::unless(belong(records::heading_at(bytes, base), h), Refusal::Mismatched)?;
+    words::unless(
+        belong(records::heading_at(bytes, base), h),
+        Refusal::Mismatched,
+    )?;
     Ok(h)
 }
 
@@ -79,6 +83,7 @@ fn rises(p: usize, prev: u64, num: u64) -> bool
 }
 
 // Tests the job record at a position, where the first file has this place's at base, and gives its number.
+#[tactic(auto, using(words::proofs::Refusals::refusals, crate::proofs::Headings::job_split), unfolding(crate::specs::Bundle::num_of))]
 fn check_job(
     bytes: &[u8],
     len: usize,
@@ -105,13 +110,7 @@ fn check_job(
 }
 
 // Tests a run of job records.
-fn check_jobs(
-    bytes: &[u8],
-    len: usize,
-    base: usize,
-    at: usize,
-    count: usize,
-) -> Result<(), Refusal>
+fn check_jobs(bytes: &[u8], len: usize, base: usize, at: usize, count: usize) -> Result<(), Refusal>
     requires { (known job_kind len ≡ true) × (base ≤ at) × (at ≤ length bytes.now) }
     ensures { fault_in result ≡ first_of (job_fault bytes.now len base at) count }
 {
@@ -127,6 +126,7 @@ fn check_jobs(
 }
 
 // Tests the file at a position, and gives its heading.
+#[tactic(auto, using(words::proofs::Refusals::refusals), unfolding(crate::specs::Bundle::file_fault_at))]
 fn check_file_at(bytes: &[u8], base: usize, prev: usize, at: usize) -> Result<Heading, Refusal>
     requires { (base ≤ at) × (at ≤ length bytes.now) }
     ensures fault { fault_in result ≡ file_fault_at bytes.now base prev at }
@@ -155,7 +155,7 @@ fn check_files_within(bytes: &[u8], start: usize, most: usize) -> Result<(), Ref
     let mut prev: usize = 0;
     let mut left = most;
     while at < bytes.len() {
-        words::unless(left != 0, Refusal::Malformed)?;
+        words::unless(0 < left, Refusal::Malformed)?;
         let h = check_file_at(bytes, start, prev, at)?;
         prev = h.holder;
         at += records::file_size(h);
@@ -179,6 +179,7 @@ pub fn check_files(bytes: &[u8], start: usize) -> Result<(), Refusal>
 }
 
 // Tests all the bytes as a bundle.
+#[tactic(auto, using(words::proofs::Refusals::refusals), unfolding(crate::specs::Bundle::bundle_fault))]
 pub fn check_bundle(bytes: &[u8]) -> Result<(), Refusal>
     ensures { fault_in result ≡ bundle_fault bytes.now }
 {

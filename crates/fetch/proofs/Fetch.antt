@@ -7,22 +7,21 @@ use native.Mathlib.Decide.{dec_le}
 use mathlib.Core.List.{List, [], ◌∷◌}
 use mathlib.Core.Bool.{Bool, true, false, cond}
 use lib.ListN.{length, get_or, set}
-use lib.Dec.{leb, ltb, eqb, lit<}
-use borrow.Author.Tests.{le-leb, leb-true, lt-ltb, ltb-true, eqb-true, eq-eqb, ne_eqb}
+use lib.Dec.{leb, eqb, lit<}
+use borrow.Author.Tests.{le-leb, leb-true, lt-ltb, le-ltb, ltb-true, eqb-true, eq-eqb, ne_eqb}
 use Rattle.words.specs.Refusal.{first, unless, kept, HOLDER}
 use Rattle.words.specs.Faults.{length_fault}
 use Rattle.words.proofs.Tests.{bool_cases, and_left, and_right, and_both}
-use Rattle.words.proofs.Refusals.{first-none, first_some, first-left, first-right, unless-held, unless-yes, kept-none, kept-some}
+use Rattle.words.proofs.Refusals.{first-none, first-left, first-right, unless-held, unless-yes, unless-no, kept-none}
 use Rattle.records.specs.Num.{part}
 use Rattle.records.specs.Layout.{body_at, record_size, body_size, job_len, file_size, order_size}
 use Rattle.records.specs.declared.Heading.{Heading}
-use Rattle.bundle.specs.Bundle.{bundle_heading, place_at, bundle_fault, files_of, holder_of, job_at, accepted}
-use Rattle.bundle.specs.declared.Accepted.{Accepted}
+use Rattle.bundle.specs.Bundle.{bundle_heading, place_at, bundle_fault, files_of, holder_of, job_at}
 use Rattle.fetch.specs.Fetch.{find_from, file_of, holder_fault, place_fault, run_fault, body_fault, body_of, part_of, part_fault}
 use Rattle.records.specs.Record.{heading_of}
 use Rattle.records.proofs.Num.{part_length}
 use Rattle.records.proofs.Lengths.{job-length-low}
-use Rattle.bundle.proofs.Bundles.{bundle-ok, holders_rise, job-within, accept-fault, accept-none, accept-files, accept-heading}
+use Rattle.bundle.proofs.Bundles.{bundle-ok, holders_rise, job-within}
 
 -- ---- a search
 
@@ -122,6 +121,10 @@ pub holder-none : (bs : List ℕ) (holder : ℕ) → file_of bs holder < files_o
 unfolding holder_fault
 holder-none bs holder l = unless-yes _ 4 (lt-ltb _ _ l)
 
+pub holder-gone : (bs : List ℕ) (holder : ℕ) → files_of bs ≤ file_of bs holder → HOLDER ≡ holder_fault bs holder
+unfolding holder_fault
+holder-gone bs holder l = sym (unless-no _ 4 (le-ltb _ _ l))
+
 pub place_in : (h : Heading) (p : ℕ) → place_fault h p ≡ 0 → p < h.jobs
 unfolding place_fault
 place_in h p e = ltb-true _ _ (unless-held _ 9 (lit< tt) e)
@@ -140,47 +143,7 @@ pub run_none : (h : Heading) (a b : ℕ) → a ≤ b → b ≤ h.jobs → run_fa
 unfolding run_fault
 run_none h a b l u = unless-yes _ 9 (and_both _ _ (le-leb a b l) (le-leb b h.jobs u))
 
--- the holder's, by the answer of accepting and of the search
-pub holder-told : (bs : List ℕ) (holder : ℕ) (r : Accepted) → r ≡ accepted bs → r.fault ≡ 0 → (f : ℕ) → f ≡ file_of bs holder →
-    unless (ltb f r.files) HOLDER ≡ holder_fault bs holder
-unfolding holder_fault
-holder-told bs holder r e z f q = ap₂ (λ (x y : ℕ). unless (ltb x y) HOLDER) q (accept-files bs r e z)
-
--- a declined call gives the number, and an output keeps its contents
-pub declined : (c v : ℕ) (old new : List ℕ) → c ≡ v → (v ≡ 0 → ⊥) → (v ≡ c) × (old ≡ kept c old new)
-declined c v old new e n = (sym e, sym (kept-some c old new (λ z. n (sym e ∙ z))))
-
 -- ---- the fetch
-
--- its number, by the answer of accepting and of the search
-module _ (bs : List ℕ) (holder p : ℕ) (r : Accepted) (e : r ≡ accepted bs) where
-  pub body_refused : (r.fault ≡ 0 → ⊥) → r.fault ≡ body_fault bs holder p
-  unfolding body_fault
-  body_refused n =
-      let q = accept-fault bs r e in
-      q ∙ sym (first_some (bundle_fault bs) _ (λ z. n (q ∙ z)))
-
-  pub body-told : r.fault ≡ 0 → (f : ℕ) → f ≡ file_of bs holder →
-      first (unless (ltb f r.files) HOLDER) (place_fault r.heading p) ≡ body_fault bs holder p
-  unfolding body_fault
-  body-told z f q =
-      ap₂ first (holder-told bs holder r e z f q) (ap (λ (h : Heading). place_fault h p) (accept-heading bs r e z))
-      ∙ sym (first-none (bundle_fault bs) _ (accept-none bs r e z))
-
-  module _ (n : ℕ) where
-    pub part-refused : (r.fault ≡ 0 → ⊥) → part_fault bs holder p n ≡ r.fault
-    unfolding part_fault
-    part-refused m =
-        let q = accept-fault bs r e in
-        first_some (bundle_fault bs) _ (λ z. m (q ∙ z)) ∙ sym q
-
-    pub part-told : r.fault ≡ 0 → (f : ℕ) → f ≡ file_of bs holder →
-        part_fault bs holder p n ≡ first (unless (ltb f r.files) HOLDER) (first (length_fault 2 n) (place_fault r.heading p))
-    unfolding part_fault
-    part-told z f q =
-        first-none (bundle_fault bs) _ (accept-none bs r e z)
-        ∙ ap₂ first (sym (holder-told bs holder r e z f q))
-        (ap (λ (h : Heading). first (length_fault 2 n) (place_fault h p)) (sym (accept-heading bs r e z)))
 
 module _ (bs : List ℕ) (holder p : ℕ) where
   -- a declined fetch gives an empty part, and one that succeeds the record's body
@@ -204,15 +167,24 @@ module _ (bs : List ℕ) (holder p : ℕ) where
         place_in (bundle_heading bs) p (first-right (holder_fault bs holder) _ r),
       )
 
+  -- where no test of it declines, it succeeds
+  pub body-none : bundle_fault bs ≡ 0 → (h : Heading) → h ≡ bundle_heading bs → 0 ≡ first (holder_fault bs holder) (place_fault h p) →
+      body_fault bs holder p ≡ 0
+  unfolding body_fault
+  body-none z h e q = first-none (bundle_fault bs) _ z ∙ rw e at (sym q)
+
+  -- and the body is within the bytes
+  pub body-within : body_fault bs holder p ≡ 0 → body_at (job_at bs (file_of bs holder) p) + body_size (job_len (bundle_heading bs)) ≤ length bs
+  unfolding record_size body_size
+  body-within e =
+      let t = body-accepted e in
+      omega (arith, job-within bs (bundle-ok bs t.0) (file_of bs holder) p t.1 t.2, job-length-low (bundle_heading bs))
+
   -- "an empty part, which no successful fetch gives"
   pub body-length : body_fault bs holder p ≡ 0 → length (body_of bs holder p) ≡ body_size (job_len (bundle_heading bs))
-  unfolding record_size body_size
   body-length e =
-      let t = body-accepted e in
-      let a = bundle-ok bs t.0 in
       ap length (body-part e)
-      ∙ part_length bs (body_at (job_at bs (file_of bs holder) p)) (body_size (job_len (bundle_heading bs)))
-      (omega (arith, job-within bs a (file_of bs holder) p t.1 t.2, job-length-low (bundle_heading bs)))
+      ∙ part_length bs (body_at (job_at bs (file_of bs holder) p)) (body_size (job_len (bundle_heading bs))) (body-within e)
 
   pub body-some : body_fault bs holder p ≡ 0 → body_of bs holder p ≡ [] → ⊥
   unfolding body_size
@@ -241,15 +213,22 @@ module _ (bs : List ℕ) (holder p : ℕ) where
         place_in (bundle_heading bs) p (first-right (unless (eqb n 2) 2) _ q),
       )
 
-  -- the two words as they are written, by the record's position and length
-  pub part-written : (old : List ℕ) (at len : ℕ) → part_fault bs holder p (length old) ≡ 0 → at ≡ job_at bs (file_of bs holder) p →
-      len ≡ job_len (bundle_heading bs) → let c = part_fault bs holder p (length old) in
-      (0 ≡ c) × (set (set old 0 (at + 6)) 1 (len - 2) ≡ kept c old (part_of bs (file_of bs holder) p))
-  unfolding part_of body_size
-  part-written old at len z e q = (
+  -- where no test of it declines, it succeeds
+  pub part-none : bundle_fault bs ≡ 0 → (h : Heading) → h ≡ bundle_heading bs → (n : ℕ) →
+      0 ≡ holder_fault bs holder → 0 ≡ length_fault 2 n → 0 ≡ place_fault h p → part_fault bs holder p n ≡ 0
+  unfolding part_fault
+  part-none z h e n a l q =
+      first-none (bundle_fault bs) _ z ∙ first-none (holder_fault bs holder) _ (sym a) ∙ first-none (length_fault 2 n) _ (sym l) ∙ rw e at (sym q)
+
+  -- the two words as they are written, by the record's position and the body's size
+  pub part-written : (old : List ℕ) (at size : ℕ) → part_fault bs holder p (length old) ≡ 0 → at ≡ job_at bs (file_of bs holder) p →
+      size ≡ body_size (job_len (bundle_heading bs)) → let c = part_fault bs holder p (length old) in
+      (0 ≡ c) × (set (set old 0 (at + 6)) 1 size ≡ kept c old (part_of bs (file_of bs holder) p))
+  unfolding part_of
+  part-written old at size z e q = (
     sym z,
-    pair old (at + 6) (len - 2) (part-accepted (length old) z).2
-        ∙ ap₂ (λ (x y : ℕ). (x + 6) ∷ (y - 2) ∷ []) e q
+    pair old (at + 6) size (part-accepted (length old) z).2
+        ∙ ap₂ (λ (x y : ℕ). (x + 6) ∷ y ∷ []) e q
         ∙ sym (kept-none _ old (body_at (job_at bs (file_of bs holder) p) ∷ body_size (job_len (bundle_heading bs)) ∷ []) z),
   )
 

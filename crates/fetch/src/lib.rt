@@ -30,6 +30,7 @@ pub fn find_file(bundle: &Bundle, holder: usize) -> Result<usize, Refusal>
 }
 
 // Tests a place.
+#[tactic(auto, unfolding(crate::specs::Fetch::place_fault))]
 pub fn check_place(h: Heading, place: usize) -> Result<(), Refusal>
     ensures fault { fault_in result ≡ place_fault h place }
     ensures ok { OnOk result (place < h.jobs) }
@@ -38,6 +39,7 @@ pub fn check_place(h: Heading, place: usize) -> Result<(), Refusal>
 }
 
 // Tests the run of the places a to b - 1.
+#[tactic(auto, unfolding(crate::specs::Fetch::run_fault))]
 pub fn check_run(h: Heading, a: usize, b: usize) -> Result<(), Refusal>
     ensures fault { fault_in result ≡ run_fault h a b }
     ensures ok { OnOk result ((a ≤ b) × (b ≤ h.jobs)) }
@@ -62,6 +64,7 @@ pub fn job_at(h: Heading, f: usize, p: usize) -> usize
 }
 
 // Where a job's body begins in a bundle, by holder and place.
+#[tactic(auto, using(words::proofs::Refusals::refusals))]
 fn body_start(bundle: &Bundle, holder: usize, place: usize) -> Result<usize, Refusal>
     ensures fault { fault_in result
         ≡ first (holder_fault bundle.now.bytes.now holder) (place_fault bundle.now.heading place) }
@@ -82,6 +85,7 @@ fn body_size(h: Heading) -> usize
 }
 
 // The body of a job record, as that part of the bundle, or why the fetch declines.
+#[tactic(auto, using(words::proofs::Refusals::refusals), unfolding(crate::specs::Fetch::body_fault))]
 pub fn body(bytes: &[u8], holder: usize, place: usize) -> Result<&[u8], Refusal>
     ensures fault { fault_in result ≡ body_fault bytes.now holder place }
     ensures body { IfOk result (λ b. b.now ≡ body_of bytes.now holder place) }
@@ -102,6 +106,7 @@ pub fn fetch_body(bytes: &[u8], holder: usize, place: usize) -> &[u8]
 }
 
 // The same part, as its offset and its length.
+#[tactic(auto, using(words::proofs::Refusals::refusals), unfolding(crate::specs::Fetch::part_fault))]
 pub fn fetch_part(
     bytes: &[u8],
     holder: usize,
@@ -155,7 +160,10 @@ pub fn job_number(bundle: &Bundle, p: usize) -> u64
     requires { p < bundle.now.heading.jobs }
     ensures { result ≡ num_of bundle.now.bytes.now (job_at bundle.now.bytes.now 0 p) }
 {
-    records::word_at(bundle.bytes, job_at(bundle.heading, 0, p) + records::PREFIX_SIZE)
+    records::word_at(
+        bundle.bytes,
+        job_at(bundle.heading, 0, p) + records::PREFIX_SIZE,
+    )
 }
 
 // The holder of file f.

@@ -1,58 +1,61 @@
 -- `job_words`: in each arm the words at that d, of the job that stands there. Assumes nothing.
 use mathlib.Core.Path.{◌≡◌, sym, ap, ap₂, ◌∙◌}
-use Prim.Native.Nat.{ℕ, ◌+◌, ◌*◌, ◌≤◌}
+use Prim.Native.Nat.{ℕ, ◌+◌, ◌*◌, ◌≤◌, ◌<◌}
 use native.Mathlib.Omega.{arith}
 use mathlib.Core.List.{List, ◌++◌}
 use lib.ListN.{length, drop, replicate}
 use Rattle.words.proofs.InRange.{six}
 use Rattle.records.specs.Layout.{word_size, job_len_of}
 use Rattle.records.specs.declared.Heading.{Heading}
+use Rattle.bundle.specs.Bundle.{files_of}
 use Rattle.bundle.specs.Contents.{words_from, words_of}
 use Rattle.bundle.proofs.Bundles.{bundle-ok, ranges-of}
 use Rattle.fetch.proofs.Places.{job-asks, job-spot, job-fits}
 use Rattle.fetch.proofs.job_words.Goals as goal
 use Rattle.fetch.proofs.job_words.Goals.{After-job_at, In_default, Start}
 
-abbrev bs : Start → List ℕ
-bs s = s.args.bytes.now
+low : (c : Start) → c.args.f < files_of c.args.bundle.now.bytes.now
+low c = omega (arith, c.requires, c.args.bundle.now.counted)
 
 -- the words are within the bytes, and are the job's
-within : (c : After-job_at) → c.job_at.result + 6 + 8 + 8 * c.args.h.params.d ≤ length (bs (goal.at.After-job_at c).Start)
+within : (c : After-job_at) → c.job_at.result + 6 + 8 + 8 * c.args.bundle.now.heading.params.d ≤ length c.args.bundle.now.bytes.now
 unfolding job_len_of word_size
 within c =
-    let s = (goal.at.After-job_at c).Start in
+    let b = c.args.bundle.now in
     omega (
       arith,
-      job-fits (bs s) s.requires.0 s.args.h s.requires.1 s.args.f s.requires.2 s.args.p c.job_at.result s.requires.3 c.job_at.ensures,
+      job-fits b.bytes.now b.sound b.heading b.headed c.args.f (low (goal.at.After-job_at c).Start) c.args.p c.job_at.result c.requires.1 c.job_at.ensures,
     )
 
-words_are : (c : After-job_at) (d : ℕ) → c.args.h.params.d ≡ d →
-    words_from 8 (bs (goal.at.After-job_at c).Start) d (c.job_at.result + 6 + 8) ++ drop d (replicate 6 0)
-    ≡ words_of (bs (goal.at.After-job_at c).Start) c.args.f c.args.p ++ drop c.args.h.params.d (replicate 6 0)
+words_are : (c : After-job_at) (d : ℕ) → let b = c.args.bundle.now in b.heading.params.d ≡ d →
+    words_from 8 b.bytes.now d (c.job_at.result + 6 + 8) ++ drop d (replicate 6 0)
+    ≡ words_of b.bytes.now c.args.f c.args.p ++ drop b.heading.params.d (replicate 6 0)
 unfolding words_of word_size
 words_are c d e =
-    let s = (goal.at.After-job_at c).Start in
+    let b = c.args.bundle.now in
     ap₂ (λ (x : List ℕ) (n : ℕ). x ++ drop n (replicate 6 0))
-    (ap₂ (λ (n at : ℕ). words_from 8 (bs s) n (at + 6 + 8)) (sym e ∙ ap (λ (h : Heading). h.params.d) s.requires.1)
-    (job-spot (bs s) s.requires.0 s.args.h s.requires.1 s.args.f s.requires.2 s.args.p c.job_at.result s.requires.3 c.job_at.ensures))
+    (ap₂ (λ (n at : ℕ). words_from 8 b.bytes.now n (at + 6 + 8)) (sym e ∙ ap (λ (h : Heading). h.params.d) b.headed)
+    (job-spot b.bytes.now b.sound b.heading b.headed c.args.f (low (goal.at.After-job_at c).Start) c.args.p c.job_at.result c.requires.1 c.job_at.ensures))
     (sym e)
 
-asked : (c : After-job_at) (d : ℕ) → c.args.h.params.d ≡ d → (d ≤ 6) × (c.job_at.result + 6 + 8 + 8 * d ≤ length (bs (goal.at.After-job_at c).Start))
+asked : (c : After-job_at) (d : ℕ) → let b = c.args.bundle.now in b.heading.params.d ≡ d →
+    (d ≤ 6) × (c.job_at.result + 6 + 8 + 8 * d ≤ length b.bytes.now)
 asked c d e =
-    let s = (goal.at.After-job_at c).Start in
-    (omega (arith, (ranges-of (bs s) (bundle-ok (bs s) s.requires.0) s.args.h s.requires.1).book.d-high), omega (arith, within c))
+    let b = c.args.bundle.now in
+    (omega (arith, (ranges-of b.bytes.now (bundle-ok b.bytes.now b.sound) b.heading b.headed).book.d-high), omega (arith, within c))
 
 -- past 2, 3, 4 and 5
-last : (c : In_default) → c.args.h.params.d ≡ 6
+last : (c : In_default) → c.args.bundle.now.heading.params.d ≡ 6
 last c =
-    let s = (goal.at.In_default c).Start in
-    let b = (ranges-of (bs s) (bundle-ok (bs s) s.requires.0) s.args.h s.requires.1).book in
+    let h = c.args.bundle.now in
+    let b = (ranges-of h.bytes.now (bundle-ok h.bytes.now h.sound) h.heading h.headed).book in
     let r = c.in_default.in_default-own.rest in
-    six s.args.h.params.d b.d-low b.d-high r.0.0.0.1 r.0.0.1 r.0.1 r.1
+    six h.heading.params.d b.d-low b.d-high r.0.0.0.1 r.0.0.1 r.0.1 r.1
 
 pub job_at-requires : goal.job_at-requires
-job_at-requires c = let s = (goal.at.job_at-requires c).Start in
-    job-asks (bs s) s.requires.0 s.args.h s.requires.1 s.args.f s.requires.2 s.args.p (omega (arith, s.requires.3))
+job_at-requires c =
+    let b = c.args.bundle.now in
+    job-asks b.bytes.now b.sound b.heading b.headed c.args.f (low (goal.at.job_at-requires c).Start) c.args.p (omega (arith, c.requires.1))
 
 pub overflow_add-at : goal.overflow_add-at
 overflow_add-at c = omega (arith, within c, c.well_formed)

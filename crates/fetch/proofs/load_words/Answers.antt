@@ -1,5 +1,6 @@
 -- The loop of `load_words`: the first i words are in their places. Assumes nothing.
-use mathlib.Core.Path.{◌≡◌, refl, sym, ap, ◌∙◌}
+use mathlib.Core.Path.{◌≡◌, sym, ap, ◌∙◌}
+use Prim.Native.Nat.{◌+◌, ◌*◌}
 use native.Mathlib.Nat.{zero-add}
 use native.Mathlib.Omega.{arith}
 use lib.ListN.{replicate}
@@ -9,27 +10,22 @@ use Rattle.bundle.specs.Contents.{words_from}
 use Rattle.bundle.proofs.Contents.{words_count, words-at}
 use Rattle.fetch.proofs.load_words.Goals as goal
 
-pub loop-i-init : goal.loop-i-init
-loop-i-init c = (omega arith, omega arith, refl)
-
 pub loop-i-preserved : goal.loop-i-preserved
 loop-i-preserved c =
     let a = c.args in
     let l = c.loop-i in
     let bs = a.bytes.now in
-    let n = words_count 8 bs a.d a.at in (
-      omega (arith, c.loop-i-test.true),
-      omega (arith, l.invariant.1),
-      fill-next (replicate 6 0) (words_from 8 bs a.d a.at) l.words l.i 0 c.word_at.result l.invariant.2
-          (omega (arith, c.loop-i-test.true, c.requires)) (omega (arith, n, c.loop-i-test.true))
-          (c.word_at.ensures ∙ ap (le_at 8 bs) l.invariant.1 ∙ sym (words-at 8 bs a.d a.at l.i c.loop-i-test.true)),
-    )
+    let n = words_count 8 bs a.d a.at in
+    let z : a.at + l.i * 8 ≡ a.at + 8 * l.i = omega arith in
+    fill-next (replicate 6 0) (words_from 8 bs a.d a.at) l.words l.i 0 c.word_at.result l.invariant
+    (omega (arith, c.loop-i-test.true, c.requires)) (omega (arith, n, c.loop-i-test.true))
+    (c.word_at.ensures ∙ ap (le_at 8 bs) z ∙ sym (words-at 8 bs a.d a.at l.i c.loop-i-test.true))
 
 pub returns : goal.returns
 returns c =
     let a = c.args in
     let l = c.loop-i in
     let bs = a.bytes.now in
-    let z : l.i ≡ a.d = omega (arith, l.invariant.0, c.loop-i-test.false) in
-    fill-within (replicate 6 0) (words_from 8 bs a.d a.at) l.words 0 a.d (rw z at l.invariant.2) (words_count 8 bs a.d a.at)
+    let z : l.i ≡ a.d = omega (arith, l.auto.i-end, c.loop-i-test.false) in
+    fill-within (replicate 6 0) (words_from 8 bs a.d a.at) l.words 0 a.d (rw z at l.invariant) (words_count 8 bs a.d a.at)
     ∙ rw zero-add

@@ -1,12 +1,8 @@
 -- The loop of `load_words`: the first i words are in their places. Assumes nothing.
 use mathlib.Core.Path.{◌≡◌}
-use Prim.Native.Nat.{◌+◌, ◌-◌, ◌*◌, ◌≤◌}
 use lib.Seq.{paste}
 use Rattle.bundle.specs.Contents.{words_from}
 use Rattle.fetch.proofs.load_words.Given as goal
 
 abbrev pub invariant-loop-i : goal.invariant-loop-i
-invariant-loop-i l = (l.i ≤ l.d) × (l.here ≡ l.at + 8 * l.i) × (l.words ≡ paste l.initial.words 0 (words_from 8 l.bytes l.d l.at) l.i)
-
-abbrev pub decreases-loop-i : goal.decreases-loop-i
-decreases-loop-i l = l.d - l.i
+invariant-loop-i l = l.words ≡ paste l.initial.words 0 (words_from 8 l.bytes l.d l.at) l.i
