@@ -5,12 +5,11 @@ use mathlib.Core.List.{List}
 use mathlib.Core.Bool.{Bool, true, false, ◌&&◌, ◌||◌}
 use lib.Dec.{ltb, eqb, lit<}
 use borrow.Author.Tests.{le-leb, lt-ltb, eq-eqb, leb-true, ltb-true, eqb-true}
-use Rattle.words.specs.Refusal.{number_of, first, unless}
+use Rattle.words.specs.Refusal.{first, unless}
 use Rattle.words.specs.Params.{params_ok}
 use Rattle.words.specs.declared.Params.{Params}
 use Rattle.words.proofs.Tests.{and_left, and_right, and_both, and_yes, and_no}
-use Rattle.words.specs.declared.Refusal.{Refusal}
-use Rattle.words.proofs.Refusals.{number-some, first-assoc, pass, stop, first-left, first-right, unless-held, unless-yes}
+use Rattle.words.proofs.Refusals.{first-assoc, pass, stop, first-left, first-right, unless-held, unless-yes}
 use Rattle.words.proofs.InRange.{InRange, ok-range}
 use Rattle.records.specs.Layout.{record_size, head_kind, head_len, head_size, word_size, job_kind, job_len_of, job_len, file_size}
 use Rattle.records.specs.Record.{framed, Frame, heading_of}
@@ -20,12 +19,6 @@ use Rattle.records.specs.declared.Heading.{Heading}
 use Rattle.records.proofs.Record.{framed-frame, frame-framed}
 
 -- ---- tests
-
--- a refusal of a test says that it failed
-pub test_refused : (e : Refusal) (t : Bool) (c : ℕ) → number_of e ≡ unless t c → (t ≡ false) × (number_of e ≡ c)
-unfolding unless
-test_refused e true c h = absurd (number-some e h)
-test_refused e false c h = (refl, h)
 
 -- two tests of one fault, in turn
 pub test-both : (a b : Bool) (c : ℕ) → unless (a && b) c ≡ first (unless a c) (unless b c)

@@ -1,5 +1,5 @@
 -- Laws of records and of the cursor's read. Assumes nothing.
-use mathlib.Core.Path.{◌≡◌, refl, ap, ◌∙◌}
+use mathlib.Core.Path.{◌≡◌, refl, sym, ap, ◌∙◌}
 use Prim.Native.Nat.{ℕ, ◌+◌, ◌-◌, ◌≤◌, ◌<◌}
 use native.Mathlib.Omega.{arith}
 use native.Mathlib.Decide.{dec_le}
@@ -8,13 +8,21 @@ use mathlib.Core.Bool.{Bool, true, false, cond, ◌&&◌, and-true, and-false}
 use lib.ListN.{length}
 use lib.Dec.{leb, eqb}
 use borrow.Author.Tests.{le-leb, lt-leb, eq-eqb, ne_eqb, leb-true, eqb-true}
-use Rattle.words.specs.Refusal.{unless}
+use Rattle.std.specs.Prelude.{Result}
+use Rattle.std.specs.declared.option.Option.{Option}
+use Rattle.std.specs.declared.option.Option.TheVariants.{None, Some}
+use Rattle.std.specs.declared.result.Result.TheVariants.{Ok, Err}
+use Rattle.std.specs.Result.{IsErrAnd}
+use Rattle.std.proofs.lemmas.Result.{err_from_is_err_and}
+use Rattle.words.specs.Refusal.{number_of, fault_in, unless}
+use Rattle.words.specs.declared.Refusal.{Refusal}
+use Rattle.words.specs.declared.Refusal.TheVariants.{Parameters, Length, WideWord, Holder, TooFewShares, NoCodeword, Malformed, Mismatched, OutOfRange, DeskClosed, Text}
+use Rattle.words.proofs.Refusals.{number-some}
 use Rattle.words.proofs.Tests.{bool_cases, and_left, and_right}
 use Rattle.records.specs.Layout.{body_at, record_size, body_size, known}
-use Rattle.records.specs.Record.{len_at, kind_at, whole, framed, Frame, read_at, read_fault, cursor_fault, read_next}
+use Rattle.records.specs.Record.{len_at, kind_at, whole, framed, Frame, read_at, cursor_fault, read_next}
 use Rattle.records.specs.declared.Cursor.{Cursor}
-use Rattle.records.specs.declared.Read.{Read}
-use Rattle.records.specs.declared.Read.TheVariants.{Record, End, Fault}
+use Rattle.records.specs.declared.RawRecord.{RawRecord}
 use Rattle.records.proofs.Lengths.{known-min, known-low}
 
 -- fewer than 7 bytes hold no record
@@ -28,40 +36,68 @@ whole-short bs at h =
 
 -- what a cursor reads, case by case
 module _ (bs : List ℕ) (at : ℕ) where
-  pub read-end : at ≡ length bs → read_at bs at ≡ End
+  pub read-end : at ≡ length bs → read_at bs at ≡ Ok None
   unfolding read_at
   read-end e = simp (eq-eqb at (length bs) e)
 
   module _ (n : at ≡ length bs → ⊥) where
-    pub read-not : whole bs at ≡ false → read_at bs at ≡ Fault
+    pub read-not : whole bs at ≡ false → read_at bs at ≡ Err Malformed
     unfolding read_at
     read-not e = simp (ne_eqb at (length bs) n, e)
 
-    pub read_short : length bs < at + 7 → read_at bs at ≡ Fault
+    pub read_short : length bs < at + 7 → read_at bs at ≡ Err Malformed
     read_short h = read-not (whole-short bs at h)
 
-    pub read-unknown : known (kind_at bs at) (len_at bs at) ≡ false → read_at bs at ≡ Fault
+    pub read-unknown : known (kind_at bs at) (len_at bs at) ≡ false → read_at bs at ≡ Err Malformed
     unfolding whole
     read-unknown e = read-not (simp e)
 
-    pub read-cut : length bs < at + record_size (len_at bs at) → read_at bs at ≡ Fault
+    pub read-cut : length bs < at + record_size (len_at bs at) → read_at bs at ≡ Err Malformed
     unfolding whole
     read-cut h = read-not (simp (lt-leb (at + record_size (len_at bs at)) (length bs) h, and-false))
 
     pub read-record : known (kind_at bs at) (len_at bs at) ≡ true → at + record_size (len_at bs at) ≤ length bs →
-        read_at bs at ≡ Record (kind_at bs at) (body_at at) (body_size (len_at bs at)) (record { at = at + record_size (len_at bs at) })
+        read_at bs at ≡ Ok (Some (record { kind = kind_at bs at; start = body_at at; len = body_size (len_at bs at); next = record { at = at + record_size (len_at bs at) } }))
     unfolding read_at whole
     read-record e h = simp (ne_eqb at (length bs) n, e, le-leb (at + record_size (len_at bs at)) (length bs) h)
 
   -- the number of what is read
-  pub read-fault : read_fault (read_at bs at) ≡ cursor_fault bs at
-  unfolding read_at read_fault cursor_fault unless
+  pub read-fault : fault_in (read_at bs at) ≡ cursor_fault bs at
+  unfolding read_at cursor_fault unless
   read-fault =
       bool_cases (eqb at (length bs)) (λ e. rw e)
       (λ e. bool_cases (whole bs at) (λ w. rw (e, w)) (λ w. rw (e, w)))
 
-  pub told : (r : Read) → r ≡ read_at bs at → (r ≡ read_at bs at) × (read_fault r ≡ cursor_fault bs at)
-  told r e = (e, ap read_fault e ∙ read-fault)
+  pub told : (r : Result (Option RawRecord) Refusal) → r ≡ read_at bs at → (r ≡ read_at bs at) × (fault_in r ≡ cursor_fault bs at)
+  told r e = (e, ap fault_in e ∙ read-fault)
+
+-- a refusal of a test says that it failed
+pub test_refused : (e : Refusal) (t : Bool) (c : ℕ) → number_of e ≡ unless t c → (t ≡ false) × (number_of e ≡ c)
+unfolding unless
+test_refused e true c h = absurd (number-some e h)
+test_refused e false c h = (refl, h)
+
+-- the one refusal of the number 7
+malformed : (e : Refusal) → number_of e ≡ 7 → e ≡ Malformed
+malformed Parameters h = absurd (omega arith)
+malformed Length h = absurd (omega arith)
+malformed WideWord h = absurd (omega arith)
+malformed Holder h = absurd (omega arith)
+malformed TooFewShares h = absurd (omega arith)
+malformed NoCodeword h = absurd (omega arith)
+malformed Malformed h = refl
+malformed Mismatched h = absurd (omega arith)
+malformed OutOfRange h = absurd (omega arith)
+malformed DeskClosed h = absurd (omega arith)
+malformed Text h = absurd (omega arith)
+
+-- what a test of a read hands out
+pub read_refused : (bs : List ℕ) (at : ℕ) (r : Result (Option RawRecord) Refusal) (e : Refusal) (t : Bool) → IsErrAnd r (λ y. y ≡ e) →
+    number_of e ≡ unless t 7 → (t ≡ false → read_at bs at ≡ Err Malformed) → (r ≡ read_at bs at) × (fault_in r ≡ cursor_fault bs at)
+read_refused bs at r e t h n f =
+    let p = err_from_is_err_and r h in
+    let y = test_refused e t 7 n in
+    told bs at r (p.1 ∙ ap Err (p.2 ∙ malformed e y.1) ∙ sym (f y.0))
 
 -- what a frame says
 pub framed-frame : (bs : List ℕ) (kind len at : ℕ) → framed bs kind len at ≡ true → Frame bs kind len at
@@ -95,7 +131,7 @@ module _ (bs : List ℕ) (kind len at : ℕ) where
 
 -- a frame of a known kind and length is what a cursor reads
 pub frame-read : (bs : List ℕ) (kind len at : ℕ) → known kind len ≡ true → Frame bs kind len at →
-    read_at bs at ≡ Record kind (body_at at) (body_size len) (record { at = at + record_size len })
+    read_at bs at ≡ Ok (Some (record { kind = kind; start = body_at at; len = body_size len; next = record { at = at + record_size len } }))
 unfolding record_size
 frame-read bs kind len at e f =
     let k : known (kind_at bs at) (len_at bs at) ≡ true = rw (f.kind_is, f.len_is) e in
@@ -103,33 +139,31 @@ frame-read bs kind len at e f =
     read-record bs at (λ z. omega (arith, f.within)) k (rw f.len_is f.within) ∙ rw (f.kind_is, f.len_is)
 
 -- what a record that was read says
-cond-inv : (e w : Bool) (r : Read) (k s l : ℕ) (nx : Cursor) → cond e End (cond w r Fault) ≡ Record k s l nx → (w ≡ true) ×
-    (r ≡ Record k s l nx)
-cond-inv true w r k s l nx q = absurd (let z : ◌≡◌ {A = ℕ} 0 1 = cc in omega arith)
-cond-inv false true r k s l nx q = (refl, q)
-cond-inv false false r k s l nx q = absurd (let z : ◌≡◌ {A = ℕ} 0 1 = cc in omega arith)
+cond-inv : (e w : Bool) (x r : RawRecord) → cond e (Ok None) (cond w (Ok (Some x)) (Err Malformed)) ≡ Ok (Some r) → (w ≡ true) × (x ≡ r)
+cond-inv true w x r q = absurd (let z : ◌≡◌ {A = ℕ} 0 1 = cc in omega arith)
+cond-inv false true x r q = (refl, cc)
+cond-inv false false x r q = absurd (let z : ◌≡◌ {A = ℕ} 0 1 = cc in omega arith)
 
-module _ (bs : List ℕ) (at k s l : ℕ) (nx : Cursor) (q : read_at bs at ≡ Record k s l nx) where
+module _ (bs : List ℕ) (at : ℕ) (r : RawRecord) (q : read_at bs at ≡ Ok (Some r)) where
   -- it is framed
-  pub read-inv : Frame bs k (l + 2) at
+  pub read-inv : Frame bs r.kind (r.len + 2) at
   unfolding read_at whole record_size body_size
   read-inv =
-      let r : Read = Record (kind_at bs at) (body_at at) (body_size (len_at bs at)) (record { at = at + record_size (len_at bs at) }) in
-      let i = cond-inv (eqb at (length bs)) (whole bs at) r k s l nx q in
+      let x : RawRecord = record { kind = kind_at bs at; start = body_at at; len = body_size (len_at bs at); next = record { at = at + record_size (len_at bs at) } } in
+      let i = cond-inv (eqb at (length bs)) (whole bs at) x r q in
       let m : 3 ≤ len_at bs at = known-min (kind_at bs at) (len_at bs at) (and_left (known (kind_at bs at) (len_at bs at)) _ i.0) in
       let w : at + record_size (len_at bs at) ≤ length bs = leb-true _ _ (and_right (known (kind_at bs at) (len_at bs at)) _ i.0) in
-      let e : len_at bs at - 2 ≡ l = (cc i.1) in
-      record { kind_is = (cc i.1); len_is = omega arith; within = omega arith }
+      let e : len_at bs at - 2 ≡ r.len = ap (λ (c : RawRecord). c.len) i.1 in
+      record { kind_is = ap (λ (c : RawRecord). c.kind) i.1; len_is = omega arith; within = omega arith }
 
   -- the cursor moves on, and not past the end
-  pub read_next_lem : (at < nx.at) × (nx.at ≤ length bs)
+  pub read_next_lem : (at < r.next.at) × (r.next.at ≤ length bs)
   unfolding read_at whole record_size
   read_next_lem =
-      let r : Read = Record (kind_at bs at) (body_at at) (body_size (len_at bs at)) (record { at = at + record_size (len_at bs at) }) in
-      let i = cond-inv (eqb at (length bs)) (whole bs at) r k s l nx q in
+      let x : RawRecord = record { kind = kind_at bs at; start = body_at at; len = body_size (len_at bs at); next = record { at = at + record_size (len_at bs at) } } in
+      let i = cond-inv (eqb at (length bs)) (whole bs at) x r q in
       let w : at + record_size (len_at bs at) ≤ length bs = leb-true _ _ (and_right (known (kind_at bs at) (len_at bs at)) _ i.0) in
-      let e : nx.at ≡ at + record_size (len_at bs at) = ap (λ (c : Cursor). c.at)
-      (let z : nx ≡ record { at = at + record_size (len_at bs at) } = cc i.1 in z) in
+      let e : at + record_size (len_at bs at) ≡ r.next.at = ap (λ (c : RawRecord). c.next.at) i.1 in
       (omega arith, omega arith)
 
 -- the cursor never passes the end of the bytes, and a record that was read moves it on

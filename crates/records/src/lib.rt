@@ -2,11 +2,12 @@
 #![tactic(auto)]
 
 ghost use Rattle.std.specs.Prelude.{◌≡◌, ◌+◌, ◌≤◌, ◌<◌, true, length, get_or};
+ghost use Rattle.words.specs.Refusal.{fault_in};
 ghost use Rattle.records.specs.Num.{le_at};
 ghost use Rattle.records.specs.Layout.{head_size, word_size, job_len, file_size, job_len_known, known};
-ghost use Rattle.records.specs.Record.{framed, read_at, read_fault, cursor_fault, heading_of};
+ghost use Rattle.records.specs.Record.{framed, read_at, cursor_fault, heading_of};
 
-use words::Params;
+use words::{Params, Refusal};
 
 // Kinds of records.
 pub const HEADING_KIND: u64 = 1;
@@ -43,18 +44,13 @@ pub struct Cursor {
     pub at: usize,
 }
 
-// What a read at a cursor gives.
+// A record that was read: its body is len bytes from start, and next is past it.
 #[derive(Clone, Copy)]
-pub enum Read {
-    // A record: its body is len bytes from start, and next is past it.
-    Record {
-        kind: u64,
-        start: usize,
-        len: usize,
-        next: Cursor,
-    },
-    End,
-    Fault,
+pub struct RawRecord {
+    pub kind: u64,
+    pub start: usize,
+    pub len: usize,
+    pub next: Cursor,
 }
 
 // What a heading says.
@@ -66,23 +62,14 @@ pub struct Heading {
     pub jobs: usize,
 }
 
-fn wide(x: u8) -> u64
-    ensures { result ≡ x }
-{
-    x as u64
-}
-
 // The number in the w bytes from position at, lowest first.
 pub fn number(bytes: &[u8], at: usize, w: usize) -> u64
     requires { (w ≤ 8) × (at + w ≤ length bytes.now) }
     ensures { result ≡ le_at w bytes.now at }
 {
-    let mut i = w;
     let mut x: u64 = 0;
-    while 0 < i {
-        i -= 1;
-        let b = wide(bytes[at + i]);
-        x = b + 256 * x;
+    for i in (0..w).rev() {
+        x = u64::from(bytes[at + i]) + 256 * x;
     }
     x
 }
@@ -92,7 +79,7 @@ fn byte_at(bytes: &[u8], at: usize) -> u64
     requires { at < length bytes.now }
     ensures { result ≡ get_or bytes.now at 0 }
 {
-    wide(bytes[at])
+    u64::from(bytes[at])
 }
 
 // The number in the two bytes from a position.
@@ -100,18 +87,18 @@ fn pair_at(bytes: &[u8], at: usize) -> u64
     requires { at + 2 ≤ length bytes.now }
     ensures { result ≡ le_at 2 bytes.now at }
 {
-    wide(bytes[at]) + 256 * wide(bytes[at + 1])
+    u64::from(bytes[at]) + 256 * u64::from(bytes[at + 1])
 }
 
-// The number in the four bytes from a position: written so that the compiler sees one load.
+// The number in the four bytes from a position: written out so that the compiler makes one load of it (speed).
 fn half_at(bytes: &[u8], at: usize) -> u64
     requires { at + 4 ≤ length bytes.now }
     ensures { result ≡ le_at 4 bytes.now at }
 {
-    wide(bytes[at])
-        + 256 * wide(bytes[at + 1])
-        + 65536 * wide(bytes[at + 2])
-        + 16777216 * wide(bytes[at + 3])
+    u64::from(bytes[at])
+        + 256 * u64::from(bytes[at + 1])
+        + 65536 * u64::from(bytes[at + 2])
+        + 16777216 * u64::from(bytes[at + 3])
 }
 
 // The word in the eight bytes from a position.
@@ -163,36 +150,28 @@ impl Cursor {
         Cursor { at: 0 }
     }
 
-    // Reads the record at the cursor, and looks at nothing else.
-    pub fn read(self, bytes: &[u8]) -> Read
-        ensures { (result ≡ read_at bytes.now self.at) × (read_fault result ≡ cursor_fault bytes.now self.at) }
+    // Reads the record at the cursor, and looks at nothing else: none at the end.
+    pub fn read(self, bytes: &[u8]) -> Result<Option<RawRecord>, Refusal>
+        ensures { (result ≡ read_at bytes.now self.at) × (fault_in result ≡ cursor_fault bytes.now self.at) }
     {
         let at = self.at;
         if at == bytes.len() {
-            return Read::End;
+            return Ok(None);
         }
-        if bytes.len() < at {
-            return Read::Fault;
-        }
-        if bytes.len() - at < PREFIX_SIZE {
-            return Read::Fault;
-        }
+        words::unless(at <= bytes.len(), Refusal::Malformed)?;
+        words::unless(PREFIX_SIZE <= bytes.len() - at, Refusal::Malformed)?;
         let len = number(bytes, at, LENGTH_SIZE) as usize;
         let kind = number(bytes, at + LENGTH_SIZE, KIND_SIZE);
-        if !known_length(kind, len) {
-            return Read::Fault;
-        }
-        if bytes.len() - at - LENGTH_SIZE < len {
-            return Read::Fault;
-        }
-        Read::Record {
+        words::unless(known_length(kind, len), Refusal::Malformed)?;
+        words::unless(len <= bytes.len() - at - LENGTH_SIZE, Refusal::Malformed)?;
+        Ok(Some(RawRecord {
             kind,
             start: at + PREFIX_SIZE,
             len: len - KIND_SIZE,
             next: Cursor {
                 at: at + (LENGTH_SIZE + len),
             },
-        }
+        }))
     }
 }
 

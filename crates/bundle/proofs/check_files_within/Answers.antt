@@ -10,8 +10,9 @@ use Rattle.records.specs.Layout.{file_size}
 use Rattle.records.specs.Record.{heading_of}
 use Rattle.bundle.specs.Bundle.{file_fault_at}
 use Rattle.records.proofs.Lengths.{head-low, file-low}
+use Rattle.records.proofs.Record.{test_refused}
 use Rattle.bundle.specs.Acceptance.{FileOk}
-use Rattle.bundle.proofs.Headings.{Ranges, ok-ranges, test_refused}
+use Rattle.bundle.proofs.Headings.{Ranges, ok-ranges}
 use Rattle.bundle.proofs.Files.{file-ok, files-start, files-stop, files-next, files-none, files-passed, place-low, place-start}
 use Rattle.bundle.proofs.Files.{files-empty, files-some, one-empty, one-stop, one-over, one-whole}
 use Rattle.bundle.proofs.check_files_within.Goals as goal

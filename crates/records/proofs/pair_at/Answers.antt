@@ -13,4 +13,4 @@ overflow_add-result c =
     omega (arith, c.shared_slice_known-3-1.given a, c.shared_slice_known-3-1.given (a + 1))
 
 pub returns : goal.returns
-returns c = omega (arith, c.wide-2.ensures, c.wide.ensures, le_at-two c.args.bytes.now c.args.at c.requires)
+returns c = omega (arith, c.from-2.ensures, c.from.ensures, le_at-two c.args.bytes.now c.args.at c.requires)
