@@ -52,7 +52,7 @@ fn store_product(k: u64, d: usize, a: &[u64], b: &[u64], out: &mut [u64])
     requires { ((1 ≤ k) × (k ≤ 64)) × ((2 ≤ d) × (d ≤ 6)) × (length a.now ≡ d) × (length b.now ≡ d) × (length out.old ≡ d) }
     ensures { out.new ≡ product k (lower d) a.now b.now }
 {
-    ring::specialized!(d, store_product_by(k, d, a, b, out))
+    words::specialized!(d, store_product_by(k, d, a, b, out))
 }
 
 // The product of two lent elements.

@@ -180,13 +180,7 @@ fn wide_holders(k: u64, d: usize, m: usize, hs: &[u64; 63], ys: &[[u64; 6]; 63])
         × (length ys.now ≡ 63) }
     ensures { result ≡ wide_set k (shares_of d m hs.now ys.now) }
 {
-    match d {
-        2 => wide_by(k, 2, m, hs, ys),
-        3 => wide_by(k, 3, m, hs, ys),
-        4 => wide_by(k, 4, m, hs, ys),
-        5 => wide_by(k, 5, m, hs, ys),
-        _ => wide_by(k, 6, m, hs, ys),
-    }
+    words::specialized!(d, wide_by(k, d, m, hs, ys))
 }
 
 // The search among shares of any words. Those with a wide word differ from every polynomial, so they are left out from the start.
@@ -266,13 +260,7 @@ fn position_of(k: u64, d: usize, t: usize, rows: &[[u64; 6]; 64], x: u64, words:
     requires { ((1 ≤ k) × (k ≤ 64)) × ((2 ≤ d) × (d ≤ 6)) × (t ≤ 62) × Shaped rows.now }
     ensures { result ≡ position_of (comparison k d (coefs d (suc t) rows.now) (share x (take d words))) }
 {
-    match d {
-        2 => position_by(k, 2, t, rows, x, words),
-        3 => position_by(k, 3, t, rows, x, words),
-        4 => position_by(k, 4, t, rows, x, words),
-        5 => position_by(k, 5, t, rows, x, words),
-        _ => position_by(k, 6, t, rows, x, words),
-    }
+    words::specialized!(d, position_by(k, d, t, rows, x, words))
 }
 
 // The positions of the wrong holders: entry i - 1 of the output for holder i.

@@ -127,7 +127,7 @@ pub fn fetch_part(
 }
 
 // The d words of 8 bytes each from a position.
-fn load_words(bytes: &[u8], at: usize, d: usize) -> [u64; 6]
+fn load_words_by(bytes: &[u8], at: usize, d: usize) -> [u64; 6]
     requires { (d ≤ 6) × (at + 8 * d ≤ length bytes.now) }
     ensures { result ≡ words_from 8 bytes.now d at ++ drop d (replicate 6 0) }
 {
@@ -138,21 +138,21 @@ fn load_words(bytes: &[u8], at: usize, d: usize) -> [u64; 6]
     words
 }
 
+// The same, with code for each d.
+fn load_words(bytes: &[u8], at: usize, d: usize) -> [u64; 6]
+    requires { ((2 ≤ d) × (d ≤ 6)) × (at + 8 * d ≤ length bytes.now) }
+    ensures { result ≡ words_from 8 bytes.now d at ++ drop d (replicate 6 0) }
+{
+    words::specialized!(d, load_words_by(bytes, at, d))
+}
+
 // The words of the job at place p of file f.
 pub fn job_words(bundle: &Bundle, f: usize, p: usize) -> [u64; 6]
     requires { (f < bundle.now.files) × (p < bundle.now.heading.jobs) }
     ensures { result ≡ words_of bundle.now.bytes.now f p ++ drop bundle.now.heading.params.d (replicate 6 0) }
 {
     let at = job_at(bundle.heading, f, p) + records::PREFIX_SIZE + records::NUMBER_SIZE;
-    let bytes = bundle.bytes;
-    let d = bundle.heading.params.d;
-    match d {
-        2 => load_words(bytes, at, 2),
-        3 => load_words(bytes, at, 3),
-        4 => load_words(bytes, at, 4),
-        5 => load_words(bytes, at, 5),
-        _ => load_words(bytes, at, 6),
-    }
+    load_words(bundle.bytes, at, bundle.heading.params.d)
 }
 
 // The number of the job at place p.

@@ -89,13 +89,7 @@ fn turn(d: usize, w: [u64; 6], c: [u64; 6], e: [u64; 6], p: &mut [u64; 6], o: &m
     requires { (2 ≤ d) × (d ≤ 6) }
     ensures { (p.new ≡ times_lanes d w p.old) × (o.new ≡ mix_lanes d c o.old e p.old) }
 {
-    match d {
-        2 => turn_by(2, w, c, e, p, o),
-        3 => turn_by(3, w, c, e, p, o),
-        4 => turn_by(4, w, c, e, p, o),
-        5 => turn_by(5, w, c, e, p, o),
-        _ => turn_by(6, w, c, e, p, o),
-    }
+    words::specialized!(d, turn_by(d, w, c, e, p, o))
 }
 
 // The pair of the lower degree is multiplied, if its gap is not zero.

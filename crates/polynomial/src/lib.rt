@@ -40,7 +40,7 @@ fn eval64(d: usize, p: &[[u64; 6]; 64], len: usize, x: u64) -> [u64; 6]
     if d == 4 {
         return horner_of_four(p, len, x);
     }
-    ring::specialized!(d, horner(d, p, len, x))
+    words::specialized!(d, horner(d, p, len, x))
 }
 
 // The value at holder x's point of the polynomial of the first len rows.
@@ -75,7 +75,7 @@ fn subtract_multiple(d: usize, p: &mut [[u64; 6]; 64], e: [u64; 6], q: &[[u64; 6
     requires { ((2 ≤ d) × (d ≤ 6)) × (len ≤ 64) × Shaped p.old × Shaped q.now }
     ensures { p.new ≡ subtract_rows 64 d len p.old (take d e) q.now }
 {
-    ring::specialized!(d, subtract_by(d, p, e, q, len))
+    words::specialized!(d, subtract_by(d, p, e, q, len))
 }
 
 // p := (Z - x) p in words of 64 bits, in the first len rows, x being holder x's point.
@@ -97,7 +97,7 @@ fn root(d: usize, p: &mut [[u64; 6]; 64], x: u64, len: usize)
     requires { ((2 ≤ d) × (d ≤ 6)) × (len ≤ 64) × Shaped p.old }
     ensures { p.new ≡ root_rows 64 d len (point d x) p.old }
 {
-    ring::specialized!(d, root_by(d, p, x, len))
+    words::specialized!(d, root_by(d, p, x, len))
 }
 
 // One share more in Newton's interpolation: q goes through len shares, and nodal is the product of the Z - x over their points. After it

@@ -16,37 +16,6 @@ const LOWER: [[u64; 6]; 7] = [
     [1, 1, 0, 0, 0, 0],
 ];
 
-// What the expression gives, whose d is 2 to 6. In each arm d is a constant, from which the compiler can make code for that d, with no loop over d
-// and no tests. A function that takes a closure stood here too: a closure with a loop is not copied into the arms, and a product took twice the
-// instructions.
-#[macro_export]
-macro_rules! specialized {
-    ($d:ident, $code:expr) => {
-        match $d {
-            2 => {
-                let $d = 2;
-                $code
-            }
-            3 => {
-                let $d = 3;
-                $code
-            }
-            4 => {
-                let $d = 4;
-                $code
-            }
-            5 => {
-                let $d = 5;
-                $code
-            }
-            _ => {
-                let $d = 6;
-                $code
-            }
-        }
-    };
-}
-
 // The row of d. A table is built anew wherever it is read, so its row is read once and handed on.
 pub fn lower_of(d: usize) -> [u64; 6]
     requires { (2 ≤ d) × (d ≤ 6) }
@@ -166,7 +135,7 @@ fn product64(d: usize, a: [u64; 6], b: [u64; 6]) -> [u64; 6]
     requires { (2 ≤ d) × (d ≤ 6) }
     ensures { result ≡ held d (product 64 (lower d) (take d a) (take d b)) }
 {
-    specialized!(d, horner_by_words(d, lower_of(d), a, b))
+    words::specialized!(d, horner_by_words(d, lower_of(d), a, b))
 }
 
 // a times b: words of 64 bits, reduced once at the end.
@@ -199,7 +168,7 @@ fn product64_by_point(d: usize, a: [u64; 6], i: u64) -> [u64; 6]
     requires { (2 ≤ d) × (d ≤ 6) }
     ensures { result ≡ held d (product 64 (lower d) (point d i) (take d a)) }
 {
-    specialized!(d, sum_by_bits(d, lower_of(d), a, i))
+    words::specialized!(d, sum_by_bits(d, lower_of(d), a, i))
 }
 
 // The point of holder i times a.
@@ -228,7 +197,7 @@ fn fermat64(d: usize, a: [u64; 6]) -> [u64; 6]
     requires { (2 ≤ d) × (d ≤ 6) }
     ensures { reduce 1 result ≡ held d (fermat d (take d a) (d - 2)) }
 {
-    specialized!(d, fermat_by(d, a))
+    words::specialized!(d, fermat_by(d, a))
 }
 
 // Newton's steps, each of which doubles the bits of the inverse that are right, from 1 to k at least; in words of 64 bits. The first factor
@@ -253,7 +222,7 @@ fn newton64(k: u64, d: usize, a: [u64; 6], start: [u64; 6]) -> [u64; 6]
     requires { (k ≤ 64) × ((2 ≤ d) × (d ≤ 6)) × (start ≡ held d start) }
     ensures { (n : ℕ) × ((k ≤ 2 ^ n) × (result ≡ held d (newtons 64 d (take d a) (take d start) n))) }
 {
-    specialized!(d, newton_by(k, d, a, start))
+    words::specialized!(d, newton_by(k, d, a, start))
 }
 
 // The inverse, or zero for what is zero modulo two: words of 64 bits, reduced at the end.
@@ -279,7 +248,7 @@ pub fn load(d: usize, s: &[u64], at: usize) -> [u64; 6]
     requires { ((2 ≤ d) × (d ≤ 6)) × (at + d ≤ length s.now) }
     ensures { result ≡ held d (drop at s.now) }
 {
-    specialized!(d, load_by(d, s, at))
+    words::specialized!(d, load_by(d, s, at))
 }
 
 // The d words of an element, into a lent list from `at` on.
@@ -295,5 +264,5 @@ pub fn store(d: usize, out: &mut [u64], at: usize, e: [u64; 6])
     requires { ((2 ≤ d) × (d ≤ 6)) × (at + d ≤ length out.old) }
     ensures { out.new ≡ take at out.old ++ take d e ++ drop (at + d) out.old }
 {
-    specialized!(d, store_by(d, out, at, e))
+    words::specialized!(d, store_by(d, out, at, e))
 }

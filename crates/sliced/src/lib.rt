@@ -66,7 +66,7 @@ pub fn times(d: usize, a: [u64; 6], b: [u64; 6]) -> [u64; 6]
     requires { (2 ≤ d) × (d ≤ 6) }
     ensures { result ≡ times_lanes d a b }
 {
-    ring::specialized!(d, times_by(d, ring::lower_of(d), a, b))
+    words::specialized!(d, times_by(d, ring::lower_of(d), a, b))
 }
 
 // Bit i of w in every lane.
@@ -99,7 +99,7 @@ pub fn support(d: usize, a: [u64; 6]) -> u64
     requires { (2 ≤ d) × (d ≤ 6) }
     ensures { result ≡ support_of d a }
 {
-    ring::specialized!(d, support_by(d, a))
+    words::specialized!(d, support_by(d, a))
 }
 
 // The bit x under the word w, whose bits move up one lane.

@@ -61,6 +61,37 @@ pub struct Signed {
     pub magnitude: u64,
 }
 
+// What the expression gives, whose d is 2 to 6. In each arm d is a constant, from which the compiler can make code for that d, with no loop over d
+// and no tests. A function that takes a closure stood here too: a closure with a loop is not copied into the arms, and a product took twice the
+// instructions.
+#[macro_export]
+macro_rules! specialized {
+    ($d:ident, $code:expr) => {
+        match $d {
+            2 => {
+                let $d = 2;
+                $code
+            }
+            3 => {
+                let $d = 3;
+                $code
+            }
+            4 => {
+                let $d = 4;
+                $code
+            }
+            5 => {
+                let $d = 5;
+                $code
+            }
+            _ => {
+                let $d = 6;
+                $code
+            }
+        }
+    };
+}
+
 // Whether parameters are in their ranges.
 #[tactic(auto, unfolding(crate::specs::Params::params_ok))]
 pub fn params_ok(p: Params) -> bool

@@ -1,4 +1,4 @@
--- The loop of `load_words`: the first i words are in their places. Assumes nothing.
+-- The loop of `load_words_by`: the first i words are in their places. Assumes nothing.
 use mathlib.Core.Path.{◌≡◌, sym, ap, ◌∙◌}
 use Prim.Native.Nat.{◌+◌, ◌*◌}
 use native.Mathlib.Nat.{zero-add}
@@ -8,7 +8,7 @@ use Rattle.words.proofs.Fill.{fill-next, fill-within}
 use Rattle.records.specs.Num.{le_at}
 use Rattle.bundle.specs.Contents.{words_from}
 use Rattle.bundle.proofs.Contents.{words_count, words-at}
-use Rattle.fetch.proofs.load_words.Goals as goal
+use Rattle.fetch.proofs.load_words_by.Goals as goal
 
 pub loop-i-preserved : goal.loop-i-preserved
 loop-i-preserved c =
