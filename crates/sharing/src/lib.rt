@@ -14,6 +14,7 @@ ghost use Rattle.sharing.specs.Opening.{lent, rising_to, lent_fault, opening};
 use words::Refusal;
 
 // Tests what is lent to a dealing into an output of length n. Words are read only where there are as many as there should be.
+#[tactic(auto, using(words::proofs::Refusals::refusals), unfolding(crate::specs::Dealing::deal_fault))]
 fn check_deal(
     p: words::Params,
     secret: &[u64],
@@ -37,10 +38,8 @@ fn share_by(d: usize, secret: &[u64], coefficients: &[u64], t: usize, x: u64) ->
     ensures { result ≡ held d (value 64 d (secret.now ∷ elements_of d t coefficients.now) (point d x)) }
 {
     let mut r = [0u64; 6];
-    let mut at = t * d;
-    while 0 < at {
-        at -= d;
-        let s = ring::sum(64, r, ring::load(d, coefficients, at));
+    for i in (0..t).rev() {
+        let s = ring::sum(64, r, ring::load(d, coefficients, i * d));
         r = ring::product_by_point(64, d, s, x);
     }
     ring::sum(64, r, ring::load(d, secret, 0))
@@ -74,17 +73,14 @@ fn write_shares(p: words::Params, secret: &[u64], coefficients: &[u64], out: &mu
         × (length coefficients.now ≡ p.t * p.d) × (length out.old ≡ p.n * p.d) }
     ensures { out.new ≡ dealt p secret.now coefficients.now }
 {
-    let mut at = 0;
-    let mut x: u64 = 1;
-    while at < out.len() {
-        let e = share_at(p.d, secret, coefficients, p.t, x);
-        ring::store(p.d, out, at, ring::reduce(p.k, e));
-        at += p.d;
-        x += 1;
+    for i in 0..p.n {
+        let e = share_at(p.d, secret, coefficients, p.t, i as u64 + 1);
+        ring::store(p.d, out, i * p.d, ring::reduce(p.k, e));
     }
 }
 
 // A job, the secret, dealt to n holders with t further coefficients, which the caller draws at random: the shares one after another.
+#[tactic(auto, using(words::proofs::Refusals::refusals))]
 pub fn deal(
     p: words::Params,
     secret: &[u64],
@@ -105,17 +101,11 @@ fn rising(n: usize, holders: &[u64]) -> bool
     ensures { result ≡ rising_to n 0 holders.now }
 {
     let mut prev: u64 = 0;
-    let mut i = 0;
-    while i < holders.len() {
-        let h = holders[i];
-        if h <= prev {
-            return false;
-        }
-        if (n as u64) < h {
+    for &h in holders {
+        if h <= prev || (n as u64) < h {
             return false;
         }
         prev = h;
-        i += 1;
     }
     true
 }
@@ -125,13 +115,11 @@ fn elements_ok(m: usize, d: usize, n: usize) -> bool
     requires { 1 ≤ d }
     ensures { result ≡ eqb n (m * d) }
 {
-    if n % d != 0 {
-        return false;
-    }
-    n / d == m
+    n % d == 0 && n / d == m
 }
 
 // Tests lent shares, ahead of whether they are enough, for outputs of n and of w words and of l bytes.
+#[tactic(auto, using(words::proofs::Refusals::refusals), unfolding(crate::specs::Opening::lent_fault, words::specs::Faults::length_fault))]
 fn check_lent(
     p: words::Params,
     holders: &[u64],
@@ -143,7 +131,10 @@ fn check_lent(
     ensures { fault_in result ≡ lent_fault p holders.now shares.now n w l }
 {
     words::check_params(p)?;
-    words::unless(elements_ok(holders.len(), p.d, shares.len()), Refusal::Length)?;
+    words::unless(
+        elements_ok(holders.len(), p.d, shares.len()),
+        Refusal::Length,
+    )?;
     words::check_length(p.d, n)?;
     words::check_length(1, w)?;
     words::check_length(64, l)?;
@@ -156,11 +147,7 @@ fn load_holders(holders: &[u64]) -> [u64; 63]
     ensures { take (length holders.now) result ≡ holders.now }
 {
     let mut r = [0u64; 63];
-    let mut i = 0;
-    while i < holders.len() {
-        r[i] = holders[i];
-        i += 1;
-    }
+    r[..holders.len()].copy_from_slice(holders);
     r
 }
 
@@ -170,10 +157,8 @@ fn load_shares(d: usize, m: usize, shares: &[u64]) -> [[u64; 6]; 63]
     ensures { coefs d m result ≡ elements_of d m shares.now }
 {
     let mut r = [[0u64; 6]; 63];
-    let mut i = 0;
-    while i < m {
+    for i in 0..m {
         r[i] = ring::load(d, shares, i * d);
-        i += 1;
     }
     r
 }

@@ -20,8 +20,8 @@ quotient m d n h r =
         sym (eq-eqb n (m * d) (sym (mod-add-div n d) ∙ ap₂ (λ (x y : ℕ). x + d * y) r (eqb-true (n / d) m e) ∙ omega arith))
     go false e = sym (ne_eqb n (m * d) (λ z. eqb-false (n / d) m e (ap (λ (x : ℕ). x / d) z ∙ mul-div_cancel m h)))
 
-pub returns-then-n-d-ne0 : goal.returns-then-n-d-ne0
-returns-then-n-d-ne0 c = let a = c.args in sym (ne_eqb a.n (a.m * a.d) (λ e. c.if-n-d-ne0.true (remainder a.m a.d a.n e)))
+pub returns-then-n-d-eq0 : goal.returns-then-n-d-eq0
+returns-then-n-d-eq0 c = quotient c.args.m c.args.d c.args.n c.requires c.if-n-d-eq0.true
 
-pub returns : goal.returns
-returns c = quotient c.args.m c.args.d c.args.n c.requires c.if-n-d-ne0.false
+pub returns-else-n-d-eq0 : goal.returns-else-n-d-eq0
+returns-else-n-d-eq0 c = let a = c.args in ne_eqb (a.n % a.d) 0 c.if-n-d-eq0.false ∙ sym (ne_eqb a.n (a.m * a.d) (λ e. c.if-n-d-eq0.false (remainder a.m a.d a.n e)))

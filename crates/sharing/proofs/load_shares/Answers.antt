@@ -1,4 +1,4 @@
-use borrow.Author.Rules.{rules}
+-- `sharing::load_shares` meets its contract: after i turns the first i rows hold their shares. Assumes nothing.
 use native.Mathlib.Omega.{arith}
 use mathlib.Core.Path.{◌≡◌, refl, sym, ap, ◌∙◌}
 use mathlib.Core.List.{[], map}
@@ -11,19 +11,12 @@ use Rattle.sharing.proofs.Loaded.{front}
 use Rattle.sharing.proofs.load_shares.Goals as goal
 use Rattle.sharing.proofs.load_shares.Goals.{At-loop-i}
 
--- src/lib.rt:160:5
 pub loop-i-init : goal.loop-i-init
-loop-i-init c = (search rules, refl, paste-zero (replicate 63 (replicate 6 0)) 0 (rows_of c.args.d c.args.m c.args.shares.now))
+loop-i-init c = (refl, paste-zero (replicate 63 (replicate 6 0)) 0 (rows_of c.args.d c.args.m c.args.shares.now))
 
--- src/lib.rt:161:38
-pub overflow_mul-i : goal.overflow_mul-i
-overflow_mul-i c = omega (arith, mul-le-mul_right c.args.d c.loop-i.invariant.0)
-
--- src/lib.rt:161:16
 pub load-requires : goal.load-requires
 load-requires c = ((omega arith, omega arith), omega (arith, mul-le-mul_right c.args.d c.loop-i-test.true))
 
--- src/lib.rt:160:5
 pub loop-i-preserved : goal.loop-i-preserved
 loop-i-preserved c =
     let l = (goal.at.loop-i-preserved c).At-loop-i in
@@ -31,13 +24,11 @@ loop-i-preserved c =
     let m = l.args.m in
     let r = rows_of d m l.args.shares.now in
     let hr : length r ≡ m = rows-length d m l.args.shares.now in (
-      omega arith,
-      simp length-set l.loop-i.invariant.1,
-      fill-next (replicate 63 (replicate 6 0)) r l.loop-i.r l.loop-i.i [] c.load.result l.loop-i.invariant.2 (omega arith) (omega arith)
+      simp length-set l.loop-i.invariant.0,
+      fill-next (replicate 63 (replicate 6 0)) r l.loop-i.r l.loop-i.i [] c.load.result l.loop-i.invariant.1 (omega arith) (omega arith)
           (c.load.ensures ∙ sym (row_at d m l.args.shares.now l.loop-i.i (omega arith))),
     )
 
--- src/lib.rt:154:1
 pub returns : goal.returns
 returns c =
     let l = (goal.at.returns c).At-loop-i in
@@ -45,5 +36,5 @@ returns c =
     let m = l.args.m in
     let ws = l.args.shares.now in
     let e : l.loop-i.i ≡ m = omega arith in
-    ap (map (take d)) (front (replicate 63 (replicate 6 0)) (rows_of d m ws) l.loop-i.r m (rw e at l.loop-i.invariant.2) (rows-length d m ws))
+    ap (map (take d)) (front (replicate 63 (replicate 6 0)) (rows_of d m ws) l.loop-i.r m (rw e at l.loop-i.invariant.1) (rows-length d m ws))
     ∙ rows_back d m ws (omega arith)

@@ -3,12 +3,18 @@ use native.Mathlib.Omega.{arith}
 use mathlib.Core.Path.{◌≡◌, refl, sym, ◌∙◌}
 use Prim.Native.Nat.{ℕ, ◌≤◌}
 use lib.ListN.{length}
+use Rattle.std.proofs.Common.{Result}
+use Rattle.std.specs.Result.{IfOk}
+use Rattle.std.specs.declared.result.Result.TheVariants.{Ok, Err}
+use Rattle.words.specs.Refusal.{fault_in}
+use Rattle.words.specs.declared.Refusal.{Refusal}
 use Rattle.words.proofs.InRange.{InRange, ok-range}
+use Rattle.words.proofs.Refusals.{handed_out, number-some}
 use Rattle.polynomial.specs.Rows.{Rows}
 use Rattle.codewords.specs.Opening.{Opening, declines, answer_to}
 use Rattle.codewords.proofs.Opening.{Handed, handed}
 use Rattle.level.specs.Shares.{shares_of}
-use Rattle.decoder.specs.Decoded.{Ordered}
+use Rattle.decoder.specs.Decoded.{Ordered, wrong_in}
 use Rattle.rounds.proofs.Rows.{zero-shaped}
 use Rattle.sharing.specs.Clear.{LentClear}
 use Rattle.sharing.specs.Opening.{lent, lent_fault, opening}
@@ -18,7 +24,7 @@ use Rattle.sharing.proofs.Loaded.{loaded}
 use Rattle.sharing.proofs.Opens.{opening-clear, opening-stopped}
 use borrow.Author.Rules.{rules}
 use Rattle.sharing.proofs.open_shares.Goals as goal
-use Rattle.sharing.proofs.open_shares.Goals.{After-all_in_width-narrow, After-decode-opened, After-hand_out, After-load_shares-ys, Else-fault-ne0, Start}
+use Rattle.sharing.proofs.open_shares.Goals.{After-all_in_width-narrow, After-decode-opened, After-hand_out, After-load_shares-ys, In_ok-check_lent, Start}
 
 -- the fault of the lent shares, what the call is to give, and what is known where there is no such fault
 abbrev F : Start → ℕ
@@ -27,19 +33,19 @@ F s = lent_fault s.args.p s.args.holders.now s.args.shares.now (length s.args.ou
 abbrev O : Start → Opening
 O s = opening s.args.p s.args.holders.now s.args.shares.now s.args.e (length s.args.out.now) (length s.args.wrong.now) (length s.args.lowest.now)
 
-no_fault : (c : Else-fault-ne0) → F (goal.at.Else-fault-ne0 c).Start ≡ 0
-no_fault c = sym c.lent_fault-fault.ensures ∙ c.if-fault-ne0.false
+no_fault : (c : In_ok-check_lent) → F (goal.at.In_ok-check_lent c).Start ≡ 0
+no_fault c = sym c.in_ok-check_lent.ensures
 
 abbrev Known : Start → Type 0
 Known s = LentClear s.args.p s.args.holders.now s.args.shares.now (length s.args.out.now) (length s.args.wrong.now) (length s.args.lowest.now)
 
-known : (c : Else-fault-ne0) → Known (goal.at.Else-fault-ne0 c).Start
+known : (c : In_ok-check_lent) → Known (goal.at.In_ok-check_lent c).Start
 known c = lent-clear c.args.p c.args.holders.now c.args.shares.now (length c.args.out.now) (length c.args.wrong.now) (length c.args.lowest.now) (no_fault c)
 
-range : (c : Else-fault-ne0) → InRange c.args.p
+range : (c : In_ok-check_lent) → InRange c.args.p
 range c = ok-range c.args.p (known c).params
 
-few : (c : Else-fault-ne0) → length c.args.holders.now ≤ 63
+few : (c : In_ok-check_lent) → length c.args.holders.now ≤ 63
 few c =
     let k = known c in
     omega (arith, rising-length c.args.p.n 0 c.args.holders.now k.rising, few-holders c.args.p (range c))
@@ -52,29 +58,29 @@ same c =
     c.load_holders-hs.result c.load_shares-ys.result refl c.load_holders-hs.ensures
     c.load_shares-ys.ensures
 
-pub returns-then-fault-ne0 : goal.returns-then-fault-ne0
-returns-then-fault-ne0 c =
-    let s = (goal.at.returns-then-fault-ne0 c).Start in
-    let e = c.lent_fault-fault.ensures in
+pub returns-in_err-check_lent : goal.returns-in_err-check_lent
+returns-in_err-check_lent c =
+    let s = (goal.at.returns-in_err-check_lent c).Start in
+    let e = c.in_err-check_lent.ensures in
     let z : O s ≡ declines (F s) =
     opening-stopped s.args.p s.args.holders.now s.args.shares.now s.args.e (length s.args.out.now)
-    (length s.args.wrong.now) (length s.args.lowest.now) (λ z. c.if-fault-ne0.true (e ∙ z)) in
-    rw z (record { fault = e; out = refl; wrong = refl; lowest = refl })
+    (length s.args.wrong.now) (length s.args.lowest.now) (λ z. number-some _ (e ∙ z)) in
+    rw z (record { fault = handed_out c.from_residual.result _ c.from_residual.ensures.1 ∙ e; out = refl; wrong = refl; lowest = refl })
 
 pub load_holders-hs-requires : goal.load_holders-hs-requires
 load_holders-hs-requires c = few c
 
 pub load_shares-ys-requires : goal.load_shares-ys-requires
 load_shares-ys-requires c =
-    let k = known (goal.at.load_shares-ys-requires c).Else-fault-ne0 in
-    let i = range (goal.at.load_shares-ys-requires c).Else-fault-ne0 in
-    ((i.d-low, i.d-high), few (goal.at.load_shares-ys-requires c).Else-fault-ne0, k.words_length)
+    let k = known (goal.at.load_shares-ys-requires c).In_ok-check_lent in
+    let i = range (goal.at.load_shares-ys-requires c).In_ok-check_lent in
+    ((i.d-low, i.d-high), few (goal.at.load_shares-ys-requires c).In_ok-check_lent, k.words_length)
 
 -- their holders rise
 ordered : (l : After-load_shares-ys) → Ordered l.args.p.n (shares_of l.args.p.d (length l.args.holders.now) l.load_holders-hs.result l.load_shares-ys.result)
 ordered l =
     let p = l.args.p in
-    let k = known (goal.at.After-load_shares-ys l).Else-fault-ne0 in
+    let k = known (goal.at.After-load_shares-ys l).In_ok-check_lent in
     let hs = l.args.holders.now in
     let ws = l.args.shares.now in
     rw (same l) (lent-above p.d p.n 0 hs ws k.rising, lent-rising p.d p.n 0 hs ws k.rising)
@@ -84,11 +90,11 @@ decode-opened-requires c =
     let w = (goal.at.decode-opened-requires c).After-all_in_width-narrow in
     let l = (goal.at.After-all_in_width-narrow w).After-load_shares-ys in
     let p = l.args.p in
-    let k = known (goal.at.After-load_shares-ys l).Else-fault-ne0 in
+    let k = known (goal.at.After-load_shares-ys l).In_ok-check_lent in
     let hs = l.args.holders.now in
     let ws = l.args.shares.now in (
       k.params,
-      few (goal.at.After-load_shares-ys l).Else-fault-ne0,
+      few (goal.at.After-load_shares-ys l).In_ok-check_lent,
       ordered l,
       rw (same l) (lent-sized p.d hs ws k.words_length),
       λ n. rw (same l) (lent-width p.k p.d hs ws k.words_length (sym w.all_in_width-narrow.ensures ∙ n)),
@@ -97,26 +103,39 @@ decode-opened-requires c =
       zero-shaped,
     )
 
+-- what an outcome names
+named : (r : Result ℕ Refusal) (x : ℕ) → (fault_in r ≡ 0 → wrong_in r ≡ x) → IfOk r (λ w. w ≡ x)
+named (Ok w) x h = h refl
+named (Err e) x h = tt
+
 abbrev rows : After-decode-opened → Rows
 rows a = a.decode-opened.new.rows
 
 hands : (a : After-decode-opened) →
     let p = a.args.p in
-    Handed p.k p.d p.t (lent p.d a.args.holders.now a.args.shares.now) a.decode-opened.result.fault (rows a) a.decode-opened.result.wrong
+    Handed p.k p.d p.t (lent p.d a.args.holders.now a.args.shares.now) (fault_in a.decode-opened.result) (rows a) (wrong_in a.decode-opened.result)
     (answer_to p a.args.e (lent p.d a.args.holders.now a.args.shares.now))
 hands a =
     let l = (goal.at.After-decode-opened a).After-load_shares-ys in
     let p = l.args.p in
     let e = rw (same l) at a.decode-opened.ensures in
-    handed p.k p.d p.t (lent p.d l.args.holders.now l.args.shares.now) a.decode-opened.result.fault _ a.decode-opened.result.wrong _
+    handed p.k p.d p.t (lent p.d l.args.holders.now l.args.shares.now) (fault_in a.decode-opened.result) _ (wrong_in a.decode-opened.result) _
     e.shaped e.opening e.wrong
 
 pub hand_out-requires : goal.hand_out-requires
 hand_out-requires c =
     let a = (goal.at.hand_out-requires c).After-decode-opened in
     let l = (goal.at.After-decode-opened a).After-load_shares-ys in
-    let k = known (goal.at.After-load_shares-ys l).Else-fault-ne0 in
-    (k.params, few (goal.at.After-load_shares-ys l).Else-fault-ne0, ordered l, a.decode-opened.ensures.shaped, k.output, k.wrong_output, k.lowest_output, rw (same l) (hands a).set)
+    let k = known (goal.at.After-load_shares-ys l).In_ok-check_lent in (
+      k.params,
+      few (goal.at.After-load_shares-ys l).In_ok-check_lent,
+      ordered l,
+      a.decode-opened.ensures.shaped,
+      k.output,
+      k.wrong_output,
+      k.lowest_output,
+      rw (same l) (named a.decode-opened.result _ (hands a).set),
+    )
 
 pub returns : goal.returns
 returns c =
@@ -127,7 +146,7 @@ returns c =
     let g = hands a in
     let z =
     opening-clear l.args.p l.args.holders.now l.args.shares.now l.args.e (length l.args.out.now) (length l.args.wrong.now)
-    (length l.args.lowest.now) (no_fault (goal.at.After-load_shares-ys l).Else-fault-ne0) in
+    (length l.args.lowest.now) (no_fault (goal.at.After-load_shares-ys l).In_ok-check_lent) in
     rw z (record {
       fault = h.fault ∙ g.fault;
       out = h.out ∙ g.secret l.args.out.now;

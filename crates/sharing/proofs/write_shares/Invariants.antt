@@ -1,18 +1,10 @@
 -- `sharing::write_shares` meets its contract: a turn of the loop writes one share more. Assumes nothing.
 use mathlib.Core.Path.{◌≡◌}
 use mathlib.Core.List.{◌∷◌}
-use Prim.Native.Nat.{◌+◌, ◌-◌, ◌*◌, ◌≤◌}
-use lib.ListN.{length}
+use Prim.Native.Nat.{◌*◌}
 use lib.Seq.{paste}
 use Rattle.sharing.specs.Dealing.{elements_of, dealt_from}
 use Rattle.sharing.proofs.write_shares.Given as goal
 
-abbrev pub invariant-loop-at : goal.invariant-loop-at
-invariant-loop-at l = (1 ≤ l.x)
-    × (l.x ≤ l.p.n + 1)
-    × (l.at ≡ (l.x - 1) * l.p.d)
-    × (l.out ≡ paste l.initial.out 0 (dealt_from l.p.k l.p.d (l.secret ∷ elements_of l.p.d l.p.t l.coefficients) l.p.n 1) l.at)
-    × (length l.out ≡ length l.initial.out)
-
-abbrev pub decreases-loop-at : goal.decreases-loop-at
-decreases-loop-at l = l.p.n + 1 - l.x
+abbrev pub invariant-loop-i : goal.invariant-loop-i
+invariant-loop-i l = l.out ≡ paste l.initial.out 0 (dealt_from l.p.k l.p.d (l.secret ∷ elements_of l.p.d l.p.t l.coefficients) l.p.n 1) (l.i * l.p.d)
