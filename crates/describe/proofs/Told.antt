@@ -1,4 +1,4 @@
--- The numbers and the words of the calls, by what accepting the bundle gave, and what no number tells. Assumes nothing.
+-- The words of the calls, and what no number tells. Assumes nothing.
 use mathlib.Core.Path.{◌≡◌, refl, sym, ap₂, ◌∙◌}
 use Prim.Native.Nat.{ℕ, zero, suc, ◌<◌}
 use native.Mathlib.Omega.{arith}
@@ -11,25 +11,9 @@ use Rattle.words.proofs.Faults.{length-clear}
 use Rattle.words.proofs.Refusals.{first-none, first_some, first-left, first-right, unless-held, kept-none}
 use Rattle.records.specs.Layout.{file_size}
 use Rattle.records.specs.declared.Heading.{Heading}
-use Rattle.bundle.specs.Bundle.{bundle_fault, bundle_heading, files_of, file_at, holder_of, allowance_of, accepted}
-use Rattle.bundle.specs.declared.Accepted.{Accepted}
-use Rattle.bundle.proofs.Bundles.{accept-fault, accept-none, accept-files, accept-heading}
+use Rattle.bundle.specs.Bundle.{bundle_fault, bundle_heading, files_of, file_at, holder_of, allowance_of}
 use Rattle.fetch.proofs.Fetch.{place_in}
 use Rattle.describe.specs.Describe.{about_of, describe_fault, number_fault, file_part_of, index_fault, file_part_fault}
-
--- a test by the first heading and the number of files counts only where the bundle is accepted
-pub after-bundle : (bs : List ℕ) (r : Accepted) → r ≡ accepted bs → (g : Heading → ℕ → ℕ) →
-    first r.fault (g r.heading r.files) ≡ first (bundle_fault bs) (g (bundle_heading bs) (files_of bs))
-after-bundle bs r e g = go r.fault refl
-  where
-    go : (c : ℕ) → r.fault ≡ c → first r.fault (g r.heading r.files) ≡ first (bundle_fault bs) (g (bundle_heading bs) (files_of bs))
-    go zero z =
-        first-none r.fault _ z
-        ∙ ap₂ g (accept-heading bs r e z) (accept-files bs r e z)
-        ∙ sym (first-none (bundle_fault bs) _ (accept-none bs r e z))
-    go (suc c) z =
-        let q = accept-fault bs r e in
-        first_some r.fault _ (λ x. omega (arith, z, x)) ∙ q ∙ sym (first_some (bundle_fault bs) _ (λ x. omega (arith, z, x, q)))
 
 -- ---- what no number tells
 

@@ -1,13 +1,16 @@
 -- What a caller must know of a bundle, in words: the bundle at large, a job's number, a file's part of the bytes, and a read by a cursor. The
 -- refusals come in paper 01's order, "A call on a file or bundle first reads it all [..] Then come [..] 2, 9". Assumes nothing.
-use Rattle.std.specs.Prelude.{ℕ, List, [], ◌∷◌, ltb}
+use Rattle.std.specs.Prelude.{ℕ, List, [], ◌∷◌, ltb, Result}
+use Rattle.std.specs.declared.option.Option.{Option}
+use Rattle.std.specs.declared.option.Option.TheVariants.{None, Some}
+use Rattle.std.specs.declared.result.Result.TheVariants.{Ok, Err}
 use Rattle.words.specs.Refusal.{first, unless, OUT_OF_RANGE}
+use Rattle.words.specs.declared.Refusal.{Refusal}
 use Rattle.words.specs.Faults.{length_fault}
 use Rattle.records.specs.Layout.{file_size}
 use Rattle.records.specs.Record.{read_at, cursor_fault}
 use Rattle.records.specs.declared.Heading.{Heading}
-use Rattle.records.specs.declared.Read.{Read}
-use Rattle.records.specs.declared.Read.TheVariants.{Record, End, Fault}
+use Rattle.records.specs.declared.RawRecord.{RawRecord}
 use Rattle.bundle.specs.Bundle.{num_of, job_at, bundle_heading, bundle_fault, files_of, file_at, holder_of, allowance_of}
 use Rattle.fetch.specs.Fetch.{place_fault}
 
@@ -52,11 +55,11 @@ file_part_fault bs f n = first (bundle_fault bs) (first (length_fault 3 n) (inde
 -- ---- a read
 
 -- "exactly four words: what it is, 0 a record or 1 the end; kind; where the body starts; its length", and "at the end the words are 1, 0, the
--- cursor, 0": of each answer of a read at a cursor. A fault is told by its number, and by no words.
-abbrev pub step_by : ℕ → Read → List ℕ
-step_by at (Record kind start len next) = 0 ∷ kind ∷ start ∷ len ∷ []
-step_by at End = 1 ∷ 0 ∷ at ∷ 0 ∷ []
-step_by at Fault = []
+-- cursor, 0": of each answer of a read at a cursor. A refusal is told by its number, and by no words.
+abbrev pub step_by : ℕ → Result (Option RawRecord) Refusal → List ℕ
+step_by at (Ok (Some r)) = 0 ∷ r.kind ∷ r.start ∷ r.len ∷ []
+step_by at (Ok None) = 1 ∷ 0 ∷ at ∷ 0 ∷ []
+step_by at (Err e) = []
 
 unfoldable pub step_of : List ℕ → ℕ → List ℕ
 step_of bs at = step_by at (read_at bs at)
