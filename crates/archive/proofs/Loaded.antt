@@ -1,25 +1,32 @@
 -- The shares of a bundle in arrays, as the decoder is asked about them: they are the files' shares, by the holders and the rows that the loaders
 -- leave. And what a run opens to, by its width. Assumes nothing.
+use Rattle.std.proofs.Common.{Result}
+use Rattle.std.specs.Prelude.{IfOk}
+use Rattle.std.specs.declared.result.Result.TheVariants.{Ok, Err}
+use Rattle.std.specs.Result.{IsErrAnd}
+use Rattle.std.proofs.lemmas.Result.{err_from_is_err_and}
 use mathlib.Core.Path.{◌≡◌, refl, sym, ap, ap₂, ◌∙◌}
-use mathlib.Core.Bool.{true, false}
+use mathlib.Core.Bool.{Bool, true, false}
 use mathlib.Core.List.{List, [], ◌∷◌, ◌++◌}
 use Prim.Native.Nat.{ℕ, zero, suc, ◌+◌, ◌≤◌, ◌<◌}
 use native.Mathlib.Omega.{arith}
 use lib.ListN.{length, take, drop, get_or, replicate, get_or-append}
 use lib.Seq.{length_front, length-take-le}
 use Rattle.words.specs.Params.{params_ok}
-use Rattle.words.specs.Refusal.{WIDE_WORD}
+use Rattle.words.specs.Refusal.{number_of, fault_in, unless, WIDE_WORD}
+use Rattle.words.specs.declared.Refusal.{Refusal}
 use Rattle.words.specs.Word.{all_in_width}
 use Rattle.words.proofs.InRange.{range-ok}
-use Rattle.words.proofs.Refusals.{unless-yes, unless-no}
+use Rattle.words.proofs.Refusals.{unless-yes, unless-no, number-some, handed_out}
+use Rattle.words.proofs.Tests.{bool_cases}
 use Rattle.galois.specs.Element.{Element, held}
 use Rattle.galois.proofs.Held.{held-take}
 use Rattle.polynomial.specs.Rows.{Rows}
 use Rattle.codewords.specs.Codeword.{Share}
-use Rattle.codewords.specs.Opening.{declines, answer_to}
+use Rattle.codewords.specs.Opening.{declines, answer_to, wrong_of, opening_in}
 use Rattle.codewords.specs.WellFormed.{IsElement, InWidth}
 use Rattle.level.specs.Shares.{share_at, shares_from, shares_of, Sized}
-use Rattle.decoder.specs.Decoded.{Ordered}
+use Rattle.decoder.specs.Decoded.{Ordered, wrong_in}
 use Rattle.records.specs.declared.Heading.{Heading}
 use Rattle.bundle.specs.Bundle.{bundle_fault, bundle_heading, params_of, allowance_of, files_of, holder_of}
 use Rattle.bundle.specs.Contents.{words_of}
@@ -113,3 +120,19 @@ module _ (bs : List ℕ) (a n : ℕ) where
   pub run-answers : files_in_width bs a n ≡ true → run_opening bs a n ≡ answer_to (params_of bs) (allowance_of bs) (shares_over bs a n)
   unfolding run_opening
   run-answers x = rw (unless-yes (files_in_width bs a n) WIDE_WORD x)
+
+  -- the exit where a test of that width fails
+  pub run_refused : (r : Result ℕ Refusal) (e : Refusal) → IsErrAnd r (λ y. y ≡ e) → (t : Bool) → number_of e ≡ unless t WIDE_WORD →
+      t ≡ files_in_width bs a n → (k d u : ℕ) (rows : Rows) (ss : List Share) →
+      (opening_in d u (fault_in r) rows ≡ run_opening bs a n) × (wrong_in r ≡ wrong_of k d ss (run_opening bs a n))
+  run_refused r e h t q s k d u rows ss =
+      bool_cases t (λ y. absurd (number-some e (q ∙ unless-yes t WIDE_WORD y)))
+      (λ y.
+      (let f : fault_in r ≡ WIDE_WORD = handed_out r e h ∙ q ∙ unless-no t WIDE_WORD y in
+      let w : wrong_in r ≡ 0 = rw (err_from_is_err_and r h).1 refl in
+      rw (f, w, run-declines (sym s ∙ y)) (refl, refl)))
+
+-- what an outcome gives, where it is no refusal
+pub if_ok : (r : Result ℕ Refusal) (x : ℕ) → (fault_in r ≡ 0 → wrong_in r ≡ x) → IfOk r (λ w. w ≡ x)
+if_ok (Ok w) x g = g refl
+if_ok (Err e) x g = tt

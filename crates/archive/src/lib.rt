@@ -148,6 +148,7 @@ fn run_opening(
 }
 
 // Tests the outputs of an opening, of n and of w words and of l bytes.
+#[tactic(auto, using(words::proofs::Refusals::refusals), unfolding(crate::specs::Archive::outputs_fault))]
 fn check_outputs(h: Heading, n: usize, w: usize, l: usize) -> Result<(), Refusal>
     ensures fault { fault_in result ≡ outputs_fault h.params.d n w l }
     ensures ok { OnOk result ((n ≡ h.params.d) × (w ≡ 1) × (l ≡ lowest_room)) }
@@ -158,6 +159,7 @@ fn check_outputs(h: Heading, n: usize, w: usize, l: usize) -> Result<(), Refusal
 }
 
 // The bundle, where nothing is refused ahead of opening the job at a place, for outputs of n and of w words and of l bytes.
+#[tactic(auto, using(words::proofs::Refusals::refusals), unfolding(crate::specs::Archive::opening_fault))]
 pub fn accept_place(
     bytes: &[u8],
     place: usize,
@@ -166,7 +168,8 @@ pub fn accept_place(
     l: usize,
 ) -> Result<Bundle, Refusal>
     ensures fault { fault_in result ≡ opening_fault bytes.now n w l (place_fault (bundle_heading bytes.now) place) }
-    ensures bundle { IfOk result (λ b. b.bytes.now ≡ bytes.now) }
+    ensures bundle { IfOk result (λ b. (b.bytes.now ≡ bytes.now) × (place < b.heading.jobs) × (n ≡ b.heading.params.d)
+        × (w ≡ 1) × (l ≡ lowest_room)) }
 {
     let bundle = bundle::accept(bytes)?;
     check_outputs(bundle.heading, n, w, l)?;
@@ -210,6 +213,7 @@ pub fn open_accepted(
 
 // Opens the job at a place: its words go to the first output, the set of the wrong holders to the second, and the lowest bits at which their shares
 // differ to the third.
+#[tactic(auto, using(words::proofs::Refusals::refusals, crate::proofs::Calls::opened), unfolding(crate::specs::Archive::open_place))]
 pub fn open_place(
     bytes: &[u8],
     place: usize,
@@ -233,6 +237,7 @@ pub fn open_place(
 }
 
 // Opens the sum of the jobs at the places a to b - 1, in the same way.
+#[tactic(auto, using(words::proofs::Refusals::refusals, crate::proofs::Calls::opened), unfolding(crate::specs::Archive::open_run, crate::specs::Archive::opening_fault))]
 pub fn open_run(
     bytes: &[u8],
     a: usize,

@@ -1,5 +1,4 @@
 -- The loop of `load_holders`: the holders passed are in their places. Assumes nothing.
-use borrow.Author.Rules.{rules}
 use native.Mathlib.Omega.{arith}
 use mathlib.Core.Path.{◌≡◌, ap, ◌∙◌}
 use mathlib.Core.List.{◌++◌}
@@ -12,14 +11,14 @@ use Rattle.totals.proofs.Values.{values-start, values-next, values-done}
 use Rattle.archive.proofs.load_holders.Goals as goal
 use Rattle.archive.proofs.load_holders.Goals.{Start}
 
-few : (s : Start) → s.args.files ≤ 63
-few s = omega (arith, s.requires.2, files-most s.args.bytes.now (bundle-ok s.args.bytes.now s.requires.0))
+few : (s : Start) → s.args.bundle.now.files ≤ 63
+few s = omega (arith, s.args.bundle.now.counted, files-most s.args.bundle.now.bytes.now (bundle-ok s.args.bundle.now.bytes.now s.args.bundle.now.sound))
 
-room : (s : Start) → s.args.files ≤ length {A = ℕ} (replicate 63 0)
+room : (s : Start) → s.args.bundle.now.files ≤ length {A = ℕ} (replicate 63 0)
 room s = rw (length-replicate {A = ℕ} 63 0) (few s)
 
 pub loop-f-init : goal.loop-f-init
-loop-f-init c = (search rules, values-start (holder_of c.args.bytes.now) c.args.files (replicate 63 0))
+loop-f-init c = values-start (holder_of c.args.bundle.now.bytes.now) c.args.bundle.now.files (replicate 63 0)
 
 pub offset_bounds-holders-f : goal.offset_bounds-holders-f
 offset_bounds-holders-f c = omega (arith, few (goal.at.offset_bounds-holders-f c).Start)
@@ -29,14 +28,12 @@ bounds-holders-f c = omega (arith, few (goal.at.bounds-holders-f c).Start)
 
 pub loop-f-preserved : goal.loop-f-preserved
 loop-f-preserved c =
-    let s = (goal.at.loop-f-preserved c).Start in (
-      search rules,
-      values-next (holder_of s.args.bytes.now) s.args.files (replicate 63 0) c.loop-f.holders c.loop-f.f c.file_holder.result
-          c.loop-f.invariant.1 (omega arith) (room s) c.file_holder.ensures,
-    )
+    let s = (goal.at.loop-f-preserved c).Start in
+    values-next (holder_of s.args.bundle.now.bytes.now) s.args.bundle.now.files (replicate 63 0) c.loop-f.holders c.loop-f.f c.file_holder.result
+    c.loop-f.invariant (omega arith) (room s) c.file_holder.ensures
 
 pub returns : goal.returns
 returns c =
-    let e : c.loop-f.f ≡ c.args.files = omega arith in
-    values-done (holder_of c.args.bytes.now) c.args.files (replicate 63 0) c.loop-f.holders c.loop-f.f c.loop-f.invariant.1 e
-    ∙ ap (λ m. values_from (holder_of c.args.bytes.now) 0 m ++ drop m (replicate 63 0)) c.requires.2
+    let e : c.loop-f.f ≡ c.args.bundle.now.files = omega arith in
+    values-done (holder_of c.args.bundle.now.bytes.now) c.args.bundle.now.files (replicate 63 0) c.loop-f.holders c.loop-f.f c.loop-f.invariant e
+    ∙ ap (λ m. values_from (holder_of c.args.bundle.now.bytes.now) 0 m ++ drop m (replicate 63 0)) c.args.bundle.now.counted

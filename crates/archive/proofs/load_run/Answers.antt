@@ -17,20 +17,20 @@ use Rattle.totals.proofs.Runs.{run-held}
 use Rattle.archive.proofs.load_run.Goals as goal
 use Rattle.archive.proofs.load_run.Goals.{At-loop-f, In-loop-f, Start}
 
-few : (s : Start) → s.args.files ≤ 63
-few s = omega (arith, s.requires.2, files-most s.args.bytes.now (bundle-ok s.args.bytes.now s.requires.0))
+few : (s : Start) → s.args.bundle.now.files ≤ 63
+few s = omega (arith, s.args.bundle.now.counted, files-most s.args.bundle.now.bytes.now (bundle-ok s.args.bundle.now.bytes.now s.args.bundle.now.sound))
 
 -- the test of one file, and its row
 abbrev run : Start → ℕ → Bool
-run s g = run_in_width s.args.bytes.now g s.args.a (s.args.b - s.args.a)
+run s g = run_in_width s.args.bundle.now.bytes.now g s.args.a (s.args.b - s.args.a)
 
 abbrev row : Start → ℕ → Element
-row s g = held s.args.h.params.d (run_total s.args.bytes.now g s.args.a (s.args.b - s.args.a))
+row s g = held s.args.bundle.now.heading.params.d (run_total s.args.bundle.now.bytes.now g s.args.a (s.args.b - s.args.a))
 
 pub loop-f-init : goal.loop-f-init
 loop-f-init c =
     let s = (goal.at.loop-f-init c).Start in
-    (omega arith, s.requires.5, none_seen s.args.h.params.k (run s), values-start (row s) s.args.files s.args.shares.now)
+    (s.requires.2, none_seen s.args.bundle.now.heading.params.k (run s), values-start (row s) s.args.bundle.now.files s.args.shares.now)
 
 -- the row that is lent is there, and of zeros
 here : (c : In-loop-f) → c.loop-f.f < 63
@@ -49,16 +49,16 @@ pub bounds-shares-f-in-loop-f : goal.bounds-shares-f-in-loop-f
 bounds-shares-f-in-loop-f c = here c
 
 zeros : (c : In-loop-f) → let l = c.loop-f in get_or (set l.shares l.f (zero_e 6)) l.f [] ≡ zero_e 6
-zeros c = let l = c.loop-f in get_or-set_same l.shares l.f (zero_e 6) [] (omega (arith, l.invariant.1, here c))
+zeros c = let l = c.loop-f in get_or-set_same l.shares l.f (zero_e 6) [] (omega (arith, l.invariant.0, here c))
 
-book : (s : Start) → s.args.h.params.d ≤ 6
-book s = let bs = s.args.bytes.now in (ranges-of bs (bundle-ok bs s.requires.0) s.args.h s.requires.1).book.d-high
+book : (s : Start) → s.args.bundle.now.heading.params.d ≤ 6
+book s = let bs = s.args.bundle.now.bytes.now in (ranges-of bs (bundle-ok bs s.args.bundle.now.sound) s.args.bundle.now.heading s.args.bundle.now.headed).book.d-high
 
 pub add_run-seen-requires : goal.add_run-seen-requires
 add_run-seen-requires c =
     let i = (goal.at.add_run-seen-requires c).In-loop-f in
     let s = (goal.at.In-loop-f i).Start in
-    (s.requires.0, s.requires.1, omega (arith, s.requires.2, i.loop-f-test.true), s.requires.3, s.requires.4, rw (zeros i) (book s))
+    (i.loop-f-test.true, s.requires.0, s.requires.1, rw (zeros i) (book s))
 
 pub loop-f-preserved : goal.loop-f-preserved
 loop-f-preserved c =
@@ -71,20 +71,19 @@ loop-f-preserved c =
     let e : set (set l.shares l.f (zero_e 6)) l.f v ≡ set l.shares l.f v = set-set l.shares l.f (zero_e 6) v in
     let q : v ≡ row s l.f =
     r.ensures.1
-    ∙ ap (λ (x : List ℕ). added_to a.h.params.k x (run_total a.bytes.now l.f a.a (a.b - a.a))) (zeros i)
-    ∙ run-held a.bytes.now a.h s.requires.1 l.f a.a (a.b - a.a) (book s) in (
-      omega arith,
-      ap length e ∙ length-set l.shares l.f v ∙ l.invariant.1,
-      more-seen a.h.params.k l.seen r.result (run s) l.f l.invariant.2 r.ensures.0,
-      e ∙ values-next (row s) a.files a.shares.now l.shares l.f v l.invariant.3 i.loop-f-test.true (omega (arith, few s, s.requires.5)) q,
+    ∙ ap (λ (x : List ℕ). added_to a.bundle.now.heading.params.k x (run_total a.bundle.now.bytes.now l.f a.a (a.b - a.a))) (zeros i)
+    ∙ run-held a.bundle.now.bytes.now a.bundle.now.heading s.args.bundle.now.headed l.f a.a (a.b - a.a) (book s) in (
+      ap length e ∙ length-set l.shares l.f v ∙ l.invariant.0,
+      more-seen a.bundle.now.heading.params.k l.seen r.result (run s) l.f l.invariant.1 r.ensures.0,
+      e ∙ values-next (row s) a.bundle.now.files a.shares.now l.shares l.f v l.invariant.2 i.loop-f-test.true (omega (arith, few s, s.requires.2)) q,
     )
 
 pub returns : goal.returns
 returns c =
     let l = (goal.at.returns c).At-loop-f in
     let s = (goal.at.At-loop-f l).Start in
-    let e : l.loop-f.f ≡ s.args.files = omega arith in
-    let n : l.loop-f.f ≡ files_of s.args.bytes.now = e ∙ s.requires.2 in (
-      l.loop-f.invariant.2 ∙ ap (every (run s)) n,
-      values-done (row s) s.args.files s.args.shares.now l.loop-f.shares l.loop-f.f l.loop-f.invariant.3 e,
+    let e : l.loop-f.f ≡ s.args.bundle.now.files = omega arith in
+    let n : l.loop-f.f ≡ files_of s.args.bundle.now.bytes.now = e ∙ s.args.bundle.now.counted in (
+      l.loop-f.invariant.1 ∙ ap (every (run s)) n,
+      values-done (row s) s.args.bundle.now.files s.args.shares.now l.loop-f.shares l.loop-f.f l.loop-f.invariant.2 e,
     )
