@@ -2,7 +2,7 @@
 -- it was plus the total (`add-total-words`), word by word (`add-total-word`). From zero words it is the total (`add-total-zero`); a to b and then b
 -- to c leave what a to c would (`add-totals-join`). The contract of a call is told case by case (`AddTold`). Assumes nothing.
 use mathlib.Core.Path.{◌≡◌, refl, sym, ap, ap₂, ◌∙◌}
-use mathlib.Core.Bool.{true, false}
+use mathlib.Core.Bool.{true}
 use mathlib.Core.List.{List}
 use Prim.Native.Nat.{ℕ, zero, suc, ◌+◌, ◌-◌, ◌%◌, ◌^◌, ◌<◌}
 use native.Mathlib.Nat.{le_of_eq, add-mod-mod}
@@ -13,6 +13,7 @@ use Rattle.words.specs.Faults.{width_fault}
 use Rattle.words.specs.Refusal.{first}
 use Rattle.words.specs.Signed.{sum_of}
 use Rattle.words.specs.Word.{add_w, all_in_width}
+use Rattle.words.proofs.Tests.{bool_cases}
 use Rattle.words.proofs.Refusals.{first-left, first-right, first-none, first_some, first-same}
 use Rattle.words.proofs.Refusals.{unless-held, unless-yes, unless-no, unless_holds, kept-none, kept-some}
 use Rattle.galois.specs.Element.{sum, difference, zero_e}
@@ -103,13 +104,17 @@ module _ (bs : List ℕ) (holder a b : ℕ) (running : List ℕ) where
 
   module _ {h : Heading} {f : ℕ} (g : Found bs holder a b (length running) h f) where
     -- a wide word of the element: 3, whatever the words of the run
-    pub add_wide : all_in_width h.params.k running ≡ false → AddTold 3 running
+    pub add_wide : (v : ℕ) → v ≡ width_fault h.params.k running → (v ≡ 0 → ⊥) → AddTold v running
     unfolding add_total_fault width_fault
-    add_wide w =
-        let t = run_in_width bs (file_of bs holder) a (b - a) in
-        declined 3 running
+    add_wide v e n =
+        bool_cases (all_in_width h.params.k running) (λ w. absurd (n (e ∙ unless-yes _ 3 w)))
+        (λ w.
+        (let t = run_in_width bs (file_of bs holder) a (b - a) in
+        let z : v ≡ 3 = e ∙ unless-no _ 3 w in
+        declined v running
         (ap₂ first (total-width bs holder a b (length running) g.asked) (unless-no _ 3 (rw g.heading at w))
-        ∙ unless_holds (λ (x : ℕ). first x 3 ≡ 3) (first-none 0 3 refl) t 3 (first-same 3)) (λ z. omega arith) refl
+        ∙ unless_holds (λ (x : ℕ). first x 3 ≡ 3) (first-none 0 3 refl) t 3 (first-same 3)
+        ∙ sym z) n refl))
 
     -- none, and x is the element with the run added
     module _ (w : all_in_width h.params.k running ≡ true) (x : List ℕ) (q : x ≡ added_to h.params.k running (run_total bs f a (b - a))) where

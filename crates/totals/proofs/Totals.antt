@@ -7,12 +7,12 @@ use mathlib.Core.List.{List}
 use Prim.Native.Nat.{ℕ, suc, ◌+◌, ◌-◌, ◌^◌, ◌≤◌, ◌<◌}
 use native.Mathlib.Omega.{arith}
 use native.Mathlib.Decide.{dec_le}
-use lib.Dec.{ltb, eqb, lit<}
+use lib.Dec.{eqb, lit<}
 use lib.ListN.{length, get_or}
 use lib.IntN.{pos, neg_ℤ}
 use lib.Signed.{◌≤ℤ◌}
 use borrow.Author.Tests.{eq-eqb, eqb-true}
-use Rattle.words.specs.Refusal.{first, unless, HOLDER}
+use Rattle.words.specs.Refusal.{first, unless}
 use Rattle.words.specs.Faults.{length_fault}
 use Rattle.words.specs.Signed.{meaning, sum_of_meanings}
 use Rattle.words.specs.Word.{in_width, all_in_width}
@@ -20,19 +20,18 @@ use Rattle.words.proofs.Refusals.{first-left, first-right, first-none, first_som
 use Rattle.words.proofs.Refusals.{pass, unless-held, unless-yes, kept-none, kept-some}
 use Rattle.galois.specs.Element.{sum, zero_e}
 use Rattle.records.specs.declared.Heading.{Heading}
-use Rattle.bundle.specs.Bundle.{bundle_fault, bundle_heading, params_of, files_of, accepted}
-use Rattle.bundle.specs.declared.Accepted.{Accepted}
+use Rattle.bundle.specs.Bundle.{bundle_fault, bundle_heading, params_of, files_of}
 use Rattle.bundle.specs.Contents.{words_of}
-use Rattle.bundle.proofs.Bundles.{bundle-ok, bundle-ranges, accept-fault, accept-none, accept-heading}
+use Rattle.bundle.proofs.Bundles.{bundle-ok, bundle-ranges}
 use Rattle.fetch.specs.Fetch.{file_of, holder_fault, run_fault}
-use Rattle.fetch.proofs.Fetch.{holder_in, holder-none, run_in, run_none, holder-told}
+use Rattle.fetch.proofs.Fetch.{holder_in, holder-none, run_in, run_none}
 use Rattle.totals.specs.Total.{words_no, run_total, run_in_width, asked_fault, total_fault, total_words}
 use Rattle.totals.proofs.Values.{every-each, every-all}
 use Rattle.totals.proofs.Sums.{sum_same, sum-none, sum-split, sum-signed}
 use Rattle.totals.proofs.Words.{words_length}
 use Rattle.totals.proofs.Runs.{width-start}
 
--- ---- the number before the words are looked at, by the answer of accepting and of the search
+-- ---- the number before the words are looked at
 
 module _ (bs : List ℕ) (holder a b out : ℕ) where
   abbrev tests : ℕ
@@ -41,20 +40,6 @@ module _ (bs : List ℕ) (holder a b out : ℕ) where
   by_tests : asked_fault bs holder a b out ≡ first (bundle_fault bs) tests
   unfolding asked_fault
   by_tests = refl
-
-  module _ (r : Accepted) (e : r ≡ accepted bs) where
-    pub asked-refused : (r.fault ≡ 0 → ⊥) → r.fault ≡ asked_fault bs holder a b out
-    asked-refused n =
-        let q = accept-fault bs r e in
-        sym (by_tests ∙ first_some (bundle_fault bs) _ (λ z. n (q ∙ z)) ∙ sym q)
-
-    pub asked-told : (z : r.fault ≡ 0) (f : ℕ) (q : f ≡ file_of bs holder) →
-        first (unless (ltb f r.files) HOLDER) (first (length_fault r.heading.params.d out) (run_fault r.heading a b))
-        ≡ asked_fault bs holder a b out
-    asked-told z f q =
-        ap₂ first (holder-told bs holder r e z f q)
-        (ap (λ (h : Heading). first (length_fault h.params.d out) (run_fault h a b)) (accept-heading bs r e z))
-        ∙ sym (by_tests ∙ first-none (bundle_fault bs) _ (accept-none bs r e z))
 
   -- what it says where there is none
   pub record AskedClear : Type 0 where
@@ -89,31 +74,12 @@ module _ (bs : List ℕ) (holder a b out : ℕ) where
       ∙ pass (eqb out (params_of bs).d) 2 _ (eq-eqb out (params_of bs).d output)
       ∙ run_none (bundle_heading bs) a b low high
 
-  -- a heading and a file found by it, and what a pass over the run asks of them
+  -- the heading and the file by which a call goes on, where nothing that is asked declines
   pub record Found (h : Heading) (f : ℕ) : Type 0 where
     pub asked : asked_fault bs holder a b out ≡ 0
     pub heading : h ≡ bundle_heading bs
     pub file : f ≡ file_of bs holder
-    pub no_fault : bundle_fault bs ≡ 0
-    pub within : f < files_of bs
-    pub low : a ≤ b
-    pub high : b ≤ h.jobs
     pub output : out ≡ h.params.d
-
-  pub asked-found : (h : Heading) (f v : ℕ) → v ≡ asked_fault bs holder a b out → (v ≡ 0 → (h ≡ bundle_heading bs) × (f ≡ file_of bs holder)) →
-      v ≡ 0 → Found h f
-  asked-found h f v e q z =
-      let c = asked-clear (sym e ∙ z) in
-      record {
-        asked = sym e ∙ z;
-        heading = (q z).0;
-        file = (q z).1;
-        no_fault = c.no_fault;
-        within = rw (q z).1 c.file;
-        low = c.low;
-        high = rw (q z).0 c.high;
-        output = rw (q z).0 c.output;
-      }
 
   -- ---- the number of a total: what is asked, and then the width
   abbrev width : ℕ

@@ -48,8 +48,8 @@ fn add_words(bytes: &[u8], at: usize, d: usize, running: &mut [u64]) -> Seen
         let w = load_word(bytes, here + records::WORD_SIZE);
         running[j] = words::add(64, running[j], v);
         running[j + 1] = words::add(64, running[j + 1], w);
-        even = even | v;
-        odd = odd | w;
+        even |= v;
+        odd |= w;
         here += 2 * records::WORD_SIZE;
         j += 2;
     }
@@ -83,13 +83,11 @@ fn add_jobs(
     let mut even: u64 = 0;
     let mut odd: u64 = 0;
     let mut here = at;
-    let mut p = 0;
-    while p < count {
+    for _ in 0..count {
         let seen = add_words(bytes, here, d, running);
-        even = even | seen.even;
-        odd = odd | seen.odd;
+        even |= seen.even;
+        odd |= seen.odd;
         here += size;
-        p += 1;
     }
     even | odd
 }
@@ -99,10 +97,8 @@ fn cut_words(k: u64, d: usize, running: &mut [u64])
     requires { ((1 ≤ k) × (k ≤ 64)) × (d ≤ length running.old) }
     ensures { running.new ≡ reduce k (take d running.old) ++ drop d running.old }
 {
-    let mut j: usize = 0;
-    while j < d {
-        running[j] = words::low_bits(running[j], k);
-        j += 1;
+    for w in &mut running[..d] {
+        *w = words::low_bits(*w, k);
     }
 }
 
@@ -134,10 +130,8 @@ fn negate(k: u64, running: &mut [u64])
     requires { (1 ≤ k) × (k ≤ 64) }
     ensures { running.new ≡ difference k (zero_e (length running.old)) running.old }
 {
-    let mut j: usize = 0;
-    while j < running.len() {
-        running[j] = words::sub(k, 0, running[j]);
-        j += 1;
+    for w in running.iter_mut() {
+        *w = words::sub(k, 0, *w);
     }
 }
 
@@ -161,6 +155,7 @@ struct Located<'a> {
 }
 
 // The file of a holder, in a bundle that has the places a to b - 1.
+#[tactic(auto, using(words::proofs::Refusals::refusals), unfolding(crate::specs::Total::asked_fault))]
 fn locate(
     bytes: &[u8],
     holder: usize,
@@ -180,6 +175,7 @@ fn locate(
 }
 
 // The total of a holder's file over the places a to b - 1.
+#[tactic(auto, using(words::proofs::Refusals::refusals), unfolding(crate::specs::Total::total_fault, crate::specs::Total::total_words))]
 pub fn total(
     bytes: &[u8],
     holder: usize,
@@ -200,6 +196,7 @@ pub fn total(
 }
 
 // The same total, added to the lent element. The pass adds before all words of the run are seen: where one is wide, the run is taken off again.
+#[tactic(auto, using(words::proofs::Refusals::refusals), unfolding(crate::specs::Total::add_total_fault, crate::specs::Total::add_total_words))]
 pub fn add_total(
     bytes: &[u8],
     holder: usize,
