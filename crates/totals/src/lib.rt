@@ -66,7 +66,7 @@ fn add_words(bytes: &[u8], at: usize, d: usize, running: &mut [u64]) -> Seen
 
 // Adds `count` jobs of d words: the first job's words stand at `at`, and each job's `size` bytes after those of the job before. What is required is
 // that the last job's words are within the bytes. The lowest k bits of each word are then those of the sum in words of k bits, for every k.
-fn add_jobs(
+fn add_jobs_by(
     bytes: &[u8],
     at: usize,
     size: usize,
@@ -92,6 +92,24 @@ fn add_jobs(
     even | odd
 }
 
+// The same, with code for each d.
+fn add_jobs(
+    bytes: &[u8],
+    at: usize,
+    size: usize,
+    d: usize,
+    count: usize,
+    running: &mut [u64],
+) -> u64
+    requires { ((2 ≤ d) × (d ≤ 6)) × (size ≤ 62) × (at + count * size + 8 * d ≤ length bytes.now + size) × (d ≤ length running.old) }
+    ensures { ((k : ℕ) → in_width k result ≡ every (λ i. all_in_width k (words_from 8 bytes.now d (at + i * size))) count)
+        × ((k : ℕ) → k ≤ 64 → reduce k (take d running.new)
+        ≡ sum k running.old (sum_to k d (λ i. words_from 8 bytes.now d (at + i * size)) count))
+        × (drop d running.new ≡ drop d running.old) }
+{
+    words::specialized!(d, add_jobs_by(bytes, at, size, d, count, running))
+}
+
 // The lowest k bits of each of the first d words.
 fn cut_words(k: u64, d: usize, running: &mut [u64])
     requires { ((1 ≤ k) × (k ≤ 64)) × (d ≤ length running.old) }
@@ -102,7 +120,7 @@ fn cut_words(k: u64, d: usize, running: &mut [u64])
     }
 }
 
-// Adds the places a to b - 1 of file f of an accepted bundle to the first d of the lent words, with code for each d; the words of the run, together.
+// Adds the places a to b - 1 of file f of an accepted bundle to the first d of the lent words; the words of the run, together.
 pub fn add_run(bundle: &Bundle, f: usize, a: usize, b: usize, running: &mut [u64]) -> u64
     requires { (f < bundle.now.files) × (a ≤ b) × (b ≤ bundle.now.heading.jobs)
         × (bundle.now.heading.params.d ≤ length running.old) }
@@ -113,15 +131,8 @@ pub fn add_run(bundle: &Bundle, f: usize, a: usize, b: usize, running: &mut [u64
     let h = bundle.heading;
     let at = fetch::job_at(h, f, a) + records::PREFIX_SIZE + records::NUMBER_SIZE;
     let size = records::LENGTH_SIZE + records::job_length(h);
-    let d = h.params.d;
-    let seen = match d {
-        2 => add_jobs(bytes, at, size, 2, b - a, running),
-        3 => add_jobs(bytes, at, size, 3, b - a, running),
-        4 => add_jobs(bytes, at, size, 4, b - a, running),
-        5 => add_jobs(bytes, at, size, 5, b - a, running),
-        _ => add_jobs(bytes, at, size, 6, b - a, running),
-    };
-    cut_words(h.params.k, d, running);
+    let seen = add_jobs(bytes, at, size, h.params.d, b - a, running);
+    cut_words(h.params.k, h.params.d, running);
     seen
 }
 

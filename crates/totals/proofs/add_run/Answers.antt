@@ -1,4 +1,4 @@
--- `add_run`: in each arm the contract of `add_jobs` at that d, of the jobs of the run; the words are then cut. Assumes nothing.
+-- `add_run`: the contract of `add_jobs`, of the jobs of the run; the words are then cut. Assumes nothing.
 use native.Mathlib.Omega.{arith}
 use mathlib.Core.Path.{◌≡◌, refl, sym, ap, ◌∙◌}
 use mathlib.Core.List.{List, ◌++◌}
@@ -15,7 +15,7 @@ use Rattle.totals.specs.Values.{every}
 use Rattle.totals.specs.Total.{sum_to, run_total, run_in_width, added_to}
 use Rattle.totals.proofs.Runs.{job_words, run-within, run-told}
 use Rattle.totals.proofs.add_run.Goals as goal
-use Rattle.totals.proofs.add_run.Goals.{in-2, in-3, in-4, in-5, in_default, After-job_at, After-job_length-size, In_default, Joined-d, Start}
+use Rattle.totals.proofs.add_run.Goals.{After-add_jobs-seen, After-job_at, After-job_length-size, Start}
 
 abbrev bs : Start → List ℕ
 bs s = s.args.bundle.now.bytes.now
@@ -59,7 +59,7 @@ Told c r y =
     (in_width k r ≡ run_in_width (bs s) s.args.f s.args.a n)
     × (reduce k (take d y) ++ drop d y ≡ added_to k (old s) (run_total (bs s) s.args.f s.args.a n)) × (length y ≡ length (old s))
 
--- in the arm of d: what it asks of `add_jobs`, and what it then tells
+-- what is asked of `add_jobs` at a d, and what it then tells
 apart : (c : After-job_length-size) → 4 + c.job_length-size.result ≡ job_size c.args.bundle.now.heading
 unfolding record_size
 apart c = ap (λ (x : ℕ). 4 + x) c.job_length-size.ensures
@@ -90,38 +90,21 @@ module _ (c : After-job_length-size) (d : ℕ) (same : (S c).args.bundle.now.hea
       (start (goal.at.After-job_length-size c).After-job_at) (apart c) same r (old s) y q in
       (t.0, t.1, l)
 
--- past 2, 3, 4 and 5
-last : (c : In_default) → c.args.bundle.now.heading.params.d ≡ 6
-last c =
-    let b = book (goal.at.In_default c).Start in
-    omega (arith, b.d-low, b.d-high)
-
--- where the arms meet
-met : (c : Joined-d) → Told (goal.at.Joined-d c).After-job_length-size c.match-d.seen c.match-d.running
-met c =
-    let t = told (goal.at.Joined-d c).After-job_length-size in
-    elim c.match-d.branch [
-      | in-2 w ↦ rw (w.seen-is, w.running-is) (t 2 w.in-2.is _ _ w.add_jobs-seen.ensures w.add_jobs-seen.auto.running)
-      | in-3 w ↦ rw (w.seen-is, w.running-is) (t 3 w.in-3.is _ _ w.add_jobs-seen-in-3.ensures w.add_jobs-seen-in-3.auto.running)
-      | in-4 w ↦ rw (w.seen-is, w.running-is) (t 4 w.in-4.is _ _ w.add_jobs-seen-in-4.ensures w.add_jobs-seen-in-4.auto.running)
-      | in-5 w ↦ rw (w.seen-is, w.running-is) (t 5 w.in-5.is _ _ w.add_jobs-seen-in-5.ensures w.add_jobs-seen-in-5.auto.running)
-      | in_default w ↦
-          let b = book (goal.at.Joined-d c).Start in
-          let six : c.args.bundle.now.heading.params.d ≡ 6 = omega (arith, b.d-low, b.d-high) in
-          rw (w.seen-is, w.running-is) (t 6 six _ _ w.add_jobs-seen-in_default.ensures w.add_jobs-seen-in_default.auto.running)
-    ]
+summed : (c : After-add_jobs-seen) → Told (goal.at.After-add_jobs-seen c).After-job_length-size c.add_jobs-seen.result c.add_jobs-seen.new.running
+summed c =
+    told (goal.at.After-add_jobs-seen c).After-job_length-size c.args.bundle.now.heading.params.d refl _ _ c.add_jobs-seen.ensures c.add_jobs-seen.auto.running
 
 pub cut_words-requires : goal.cut_words-requires
 cut_words-requires c =
     let s = (goal.at.cut_words-requires c).Start in
-    (((book s).k-low, (book s).k-high), omega (arith, s.requires.3, (met (goal.at.cut_words-requires c).Joined-d).2))
+    (((book s).k-low, (book s).k-high), omega (arith, s.requires.3, (summed (goal.at.cut_words-requires c).After-add_jobs-seen).2))
 
 pub shape_of-running : goal.shape_of-running
-shape_of-running c = c.cut_words.auto.running ∙ (met (goal.at.shape_of-running c).Joined-d).2
+shape_of-running c = c.cut_words.auto.running ∙ (summed (goal.at.shape_of-running c).After-add_jobs-seen).2
 
 pub returns : goal.returns
 returns c =
-    let m = met (goal.at.returns c).Joined-d in
+    let m = summed (goal.at.returns c).After-add_jobs-seen in
     (m.0, c.cut_words.ensures ∙ m.1)
 
 pub job_at-requires : goal.job_at-requires
@@ -141,16 +124,7 @@ pub overflow_add-size : goal.overflow_add-size
 overflow_add-size c = omega (arith, (within c c.args.bundle.now.heading.params.d refl).0)
 
 pub add_jobs-seen-requires : goal.add_jobs-seen-requires
-add_jobs-seen-requires c = within (goal.at.add_jobs-seen-requires c).After-job_length-size 2 c.in-2.is
-
-pub add_jobs-seen-requires-in-3 : goal.add_jobs-seen-requires-in-3
-add_jobs-seen-requires-in-3 c = within (goal.at.add_jobs-seen-requires-in-3 c).After-job_length-size 3 c.in-3.is
-
-pub add_jobs-seen-requires-in-4 : goal.add_jobs-seen-requires-in-4
-add_jobs-seen-requires-in-4 c = within (goal.at.add_jobs-seen-requires-in-4 c).After-job_length-size 4 c.in-4.is
-
-pub add_jobs-seen-requires-in-5 : goal.add_jobs-seen-requires-in-5
-add_jobs-seen-requires-in-5 c = within (goal.at.add_jobs-seen-requires-in-5 c).After-job_length-size 5 c.in-5.is
-
-pub add_jobs-seen-requires-in_default : goal.add_jobs-seen-requires-in_default
-add_jobs-seen-requires-in_default c = within (goal.at.add_jobs-seen-requires-in_default c).After-job_length-size 6 (last (goal.at.add_jobs-seen-requires-in_default c).In_default)
+add_jobs-seen-requires c =
+    let r = book (goal.at.add_jobs-seen-requires c).Start in
+    let w = within (goal.at.add_jobs-seen-requires c).After-job_length-size c.args.bundle.now.heading.params.d refl in
+    ((r.d-low, r.d-high), w.0, w.1, w.2)

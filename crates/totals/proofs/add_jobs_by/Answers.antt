@@ -1,4 +1,4 @@
--- The loop of `add_jobs`: the jobs passed are added, and their words taken together. Assumes nothing.
+-- The loop of `add_jobs_by`: the jobs passed are added, and their words taken together. Assumes nothing.
 use native.Mathlib.Omega.{arith}
 use native.Mathlib.Nat.{mul-le-mul_right}
 use mathlib.Core.Path.{◌≡◌, refl, ◌∙◌}
@@ -11,8 +11,8 @@ use Rattle.bundle.proofs.Contents.{words_count}
 use Rattle.totals.proofs.Added.{added_none, added_more, added-rest}
 use Rattle.totals.proofs.Words.{none_seen, more-seen, lanes}
 use Rattle.totals.proofs.Runs.{job_words}
-use Rattle.totals.proofs.add_jobs.Goals as goal
-use Rattle.totals.proofs.add_jobs.Goals.{Start}
+use Rattle.totals.proofs.add_jobs_by.Goals as goal
+use Rattle.totals.proofs.add_jobs_by.Goals.{Start}
 
 -- the words of each job
 abbrev jobs : Start → ℕ → Element
