@@ -34,8 +34,3 @@ loop-preserved c =
     let en : i + 1 - 2 ≡ suc (i - 2) = omega arith in
     rw (c.product64-y-in-loop.ensures, en)
     (fermat-turn d (omega arith) (omega arith) a l.loop.y ha (i - 2) l.loop.invariant (take d c.product64-z.result) ez)
-
-pub returns : goal.returns
-returns c =
-    let e : c.loop.counter ≡ c.args.d = omega arith in
-    c.loop.invariant ∙ rw e

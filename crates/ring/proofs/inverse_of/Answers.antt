@@ -1,6 +1,6 @@
 -- `ring::inverse_of` meets its contract: the chain of squares modulo two, then as many steps as reach k bits, cut to k. Assumes nothing.
 use native.Mathlib.Omega.{arith}
-use mathlib.Core.Path.{◌≡◌, sym, ap, ◌∙◌}
+use mathlib.Core.Path.{◌≡◌, ap, ◌∙◌}
 use Prim.Native.Nat.{◌-◌}
 use lib.ListN.{length, take}
 use lib.Seq.{length-take-le}
@@ -8,20 +8,10 @@ use Rattle.galois.specs.Element.{reduce, held}
 use Rattle.galois.specs.Inversion.{fermat, newtons}
 use Rattle.galois.proofs.Field.{length-fermat}
 use Rattle.galois.proofs.Inverse.{length-newtons, inverse-computed}
-use Rattle.galois.proofs.Held.{held-take, held_same}
+use Rattle.galois.proofs.Held.{held-take}
 use Rattle.galois.proofs.Narrow.{reduce-held}
 use Rattle.ring.proofs.inverse_of.Goals as goal
 use Rattle.ring.proofs.inverse_of.Goals.{After-newton64}
-
-pub newton64-requires : goal.newton64-requires
-newton64-requires c =
-    let d = c.args.d in
-    let h₆ : length c.args.a ≡ 6 = omega (arith, c.well_formed) in
-    let a = take d c.args.a in
-    let y = fermat d a (d - 2) in
-    let hy : length y ≡ d = length-fermat d (omega arith) (omega arith) a (length-take-le d c.args.a (omega arith)) (d - 2) in
-    let e : c.reduce.result ≡ held d y = c.reduce.ensures ∙ c.fermat64.ensures in
-    (omega arith, (omega arith, omega arith), rw e (sym (held_same d (held d y) y (held-take d y hy) hy)))
 
 pub returns : goal.returns
 returns c =

@@ -53,9 +53,3 @@ loop-w-preserved c =
     let r : l.loop-w.w ≡ 2 ^ n = l.loop-w.invariant.1.1.0 in
     let t : l.loop-w.w + l.loop-w.w ≡ 2 ^ suc n = omega (arith, pow-suc 2 n, r) in
     (omega arith, (suc n, (t, c.product64-z.ensures ∙ rw (ex, eq) (ap (held d) (product-comm 64 d (lower d) hl q x hq hx)))))
-
-pub returns : goal.returns
-returns c =
-    let n = c.loop-w.invariant.1.0 in
-    let r : c.loop-w.w ≡ 2 ^ n = c.loop-w.invariant.1.1.0 in
-    (n, (omega (arith, r), c.loop-w.invariant.1.1.1))
