@@ -31,14 +31,8 @@ fn shift(d: usize, low: [u64; 6], r: [u64; 6]) -> [u64; 6]
     ensures { result ≡ zip (down_lane (get_or r (d - 1) 0)) (0 ∷ r) low }
 {
     let top = r[d - 1];
-    [
-        down(top, 0, low[0]),
-        down(top, r[0], low[1]),
-        down(top, r[1], low[2]),
-        down(top, r[2], low[3]),
-        down(top, r[3], low[4]),
-        down(top, r[4], low[5]),
-    ]
+    let up = [0, r[0], r[1], r[2], r[3], r[4]];
+    ring::each_word(|j| down(top, up[j], low[j]))
 }
 
 // s plus the word c times b.
@@ -144,12 +138,7 @@ pub fn slice(v: u64, m: usize, ys: &[[u64; 6]; 64]) -> [u64; 6]
 fn point(i: u64) -> [u64; 6]
     ensures { result ≡ point 6 i }
 {
-    let i1 = i / 2;
-    let i2 = i1 / 2;
-    let i3 = i2 / 2;
-    let i4 = i3 / 2;
-    let i5 = i4 / 2;
-    [i % 2, i1 % 2, i2 % 2, i3 % 2, i4 % 2, i5 % 2]
+    ring::each_word(|j| (i >> j) % 2)
 }
 
 // The point of holder hs[i] in lane i, for each i below m; the lanes from m on are zero.

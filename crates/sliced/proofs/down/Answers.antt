@@ -5,8 +5,5 @@ use lib.Bits.{bit_xor}
 use Rattle.sliced.proofs.Turns.{picked}
 use Rattle.sliced.proofs.down.Goals as goal
 
-pub overflow_mul-result : goal.overflow_mul-result
-overflow_mul-result c = omega (arith, c.requires)
-
 pub returns : goal.returns
 returns c = ap (bit_xor c.args.x) (picked c.args.top c.args.m c.requires (omega (arith, c.ranges.top)))
