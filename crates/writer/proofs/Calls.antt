@@ -5,16 +5,17 @@ use native.Mathlib.Nat.{not-suc-le-zero}
 use native.Mathlib.Numerals.{add-one}
 use native.Mathlib.Omega.{arith}
 use mathlib.Core.List.{List, [], ◌∷◌, ◌++◌, append_assoc, append-nil}
-use mathlib.Core.Bool.{true, false, ◌&&◌}
+use mathlib.Core.Bool.{Bool, true, false}
 use lib.ListN.{length, get_or, take, drop, length-drop, length-append}
-use lib.Seq.{drop-cons, take-suc, length-take-le, drop-drop}
+use lib.Seq.{take-suc, length-take-le, drop-drop}
 use lib.Dec.{ltb, eqb, lit<}
-use borrow.Author.Tests.{lt-ltb, le-ltb, eq-eqb, eqb-true}
+use borrow.Author.Tests.{lt-ltb, ltb-true, eq-eqb, eqb-true}
+use Rattle.std.specs.List.{IsAllAdjacentAnswer}
 use Rattle.words.specs.Refusal.{first, unless}
 use Rattle.words.specs.Faults.{width_fault}
 use Rattle.words.specs.Word.{all_in_width}
-use Rattle.words.proofs.Tests.{and_left, and_right, and_both, and_yes, and_no}
-use Rattle.words.proofs.Refusals.{pass, stop, first-left, first-right, unless-held, unless-yes}
+use Rattle.words.proofs.Tests.{and_left, and_right, and_both, and_yes, not-held, true-false}
+use Rattle.words.proofs.Refusals.{pass, first-left, first-right, unless-held, unless-yes}
 use Rattle.records.specs.Num.{le_bytes}
 use Rattle.records.specs.Layout.{head_kind, head_len, word_size, job_kind, job_len, job_size, file_size, order_kind, order_len}
 use Rattle.bundle.specs.Bundle.{ranges_ok, holder_ok}
@@ -26,30 +27,27 @@ use Rattle.writer.proofs.Fits.{heading-body-length, job-body-length, job-length}
 
 -- ---- numbers that rise
 
-rising-short : (l : List ℕ) → length l ≤ 1 → rising l ≡ true
+-- ---- numbers that rise
+
+pub rising-at : (ns : List ℕ) (p : ℕ) → rising ns ≡ true → suc p < length ns → get_or ns p 0 < get_or ns (suc p) 0
 unfolding rising
-rising-short [] h = refl
-rising-short (x ∷ []) h = refl
-rising-short (x ∷ y ∷ l) h = absurd (omega arith)
+rising-at [] p e l = absurd (not-suc-le-zero l)
+rising-at (x ∷ []) p e l = absurd (omega arith)
+rising-at (x ∷ y ∷ ns) zero e l = ltb-true x y (and_left (ltb x y) _ e)
+rising-at (x ∷ y ∷ ns) (suc p) e l = rising-at (y ∷ ns) p (and_right (ltb x y) _ e) (omega arith)
 
-module _ (ns : List ℕ) (j : ℕ) where
-  pub rising-end : length ns ≤ suc j → rising (drop j ns) ≡ true
-  rising-end h = rising-short (drop j ns) (rw length-drop (omega arith))
+pub at-rising : (ns : List ℕ) → ((p : ℕ) → suc p < length ns → get_or ns p 0 < get_or ns (suc p) 0) → rising ns ≡ true
+unfolding rising
+at-rising [] f = refl
+at-rising (x ∷ []) f = refl
+at-rising (x ∷ y ∷ ns) f =
+    and_yes (ltb x y) (rising (y ∷ ns)) (lt-ltb x y (f 0 (omega arith))) (at-rising (y ∷ ns) (λ p l. f (suc p) (omega arith)))
 
-  module _ (l : suc j < length ns) where
-    rising_step : rising (drop j ns) ≡ ltb (get_or ns j 0) (get_or ns (suc j) 0) && rising (drop (suc j) ns)
-    unfolding rising
-    rising_step =
-        let l' : j < length ns = omega arith in
-        let e : drop (suc j) ns ≡ get_or ns (suc j) 0 ∷ drop (suc (suc j)) ns = drop-cons ns (suc j) 0 l in
-        ap rising (drop-cons ns j 0 l' ∙ ap (λ (r : List ℕ). get_or ns j 0 ∷ r) e)
-        ∙ ap (λ (r : List ℕ). ltb (get_or ns j 0) (get_or ns (suc j) 0) && rising r) (sym e)
-
-    pub rising-more : get_or ns j 0 < get_or ns (suc j) 0 → rising (drop j ns) ≡ rising (drop (suc j) ns)
-    rising-more h = rising_step ∙ and_yes _ _ (lt-ltb (get_or ns j 0) (get_or ns (suc j) 0) h) refl
-
-    pub rising-stop : get_or ns (suc j) 0 ≤ get_or ns j 0 → rising (drop j ns) ≡ false
-    rising-stop h = rising_step ∙ and_no _ _ (le-ltb (get_or ns j 0) (get_or ns (suc j) 0) h)
+-- what a test of all neighbours answers
+pub rising-told : (ns : List ℕ) (r : Bool) → IsAllAdjacentAnswer (λ x y b. b ≡ ltb x y) ns r → r ≡ rising ns
+rising-told ns true h = sym (at-rising ns (λ p l. ltb-true _ _ (sym (rw add-one at (h p 0 (omega arith))))))
+rising-told ns false h =
+    sym (not-held (rising ns) (λ e. true-false (sym (lt-ltb _ _ (rising-at ns h.0 e (omega (arith, h.1)))) ∙ sym (rw add-one at (h.2 0)))))
 
 -- ---- words one by one
 
@@ -124,10 +122,6 @@ job-words d ws from h = length-take-le d (drop from ws) (rw length-drop (omega a
 -- ---- the fault of a call of the file writer, case by case
 
 module _ (h : Heading) (ns ws : List ℕ) (size : ℕ) where
-  pub write-1 : ranges_ok h ≡ false → write_fault h ns ws size ≡ 1
-  unfolding write_fault
-  write-1 e = stop (ranges_ok h) 1 _ (lit< tt) e
-
   pub write-rest : ranges_ok h ≡ true → write_fault h ns ws size ≡
       first (unless (sizes_ok h (length ws) size) 2) (first (unless (holder_ok 0 h) 4) (first (unless (rising ns) 7) (width_fault h.params.k ws)))
   unfolding write_fault

@@ -15,6 +15,9 @@ use Rattle.bundle.specs.Contents.{bundle_from}
 use Rattle.records.proofs.Record.{frame-framed}
 use Rattle.bundle.proofs.Files.{bundle-files}
 use Rattle.writer.specs.Bytes.{order_bytes, files_bytes, bundle_bytes}
+use Rattle.writer.specs.Write.{bundle_write_fault}
+use Rattle.words.specs.Refusal.{first}
+use Rattle.words.specs.Faults.{length_fault}
 use Rattle.writer.proofs.Holds.{holds-all, left, rec-frame}
 use Rattle.writer.proofs.Fits.{order-length}
 use Rattle.writer.proofs.Encode.{bundle_written}
@@ -32,6 +35,11 @@ module _ (e : ℕ) (files : List ℕ) where
       let z : order_size ≡ length (order_bytes e) + 0 = omega (arith, order-length e) in
       bundle-files (order_bytes e ++ files) order-framed
       ∙ ap (files_fault (order_bytes e ++ files)) z ∙ files-shift (order_bytes e) files 0
+
+-- so is the fault of a call that writes one
+pub bundle_write : (e : ℕ) (files : List ℕ) (size : ℕ) → bundle_write_fault e files size ≡ first (files_fault files 0) (length_fault (order_size + length files) size)
+unfolding bundle_write_fault
+bundle_write e files size = ap (λ (f : ℕ). first f (length_fault (order_size + length files) size)) (order-fault e files)
 
 -- every accepted bundle is its order and the bytes after it, so the bundle writer writes it
 pub bundle-rewritten : (bs : List ℕ) → Bytes bs → bundle_fault bs ≡ 0 → order_bytes (get_or bs (body_at 0) 0) ++ drop order_size bs ≡ bs

@@ -1,58 +1,44 @@
--- Laws of writing: a number byte by byte, and one piece after another. Assumes nothing.
+-- Laws of writing: the lowest bytes of a number, and one piece after another. Assumes nothing.
 use mathlib.Core.Path.{◌≡◌, refl, sym, ap, ap₂, ◌∙◌}
-use Prim.Native.Nat.{ℕ, suc, ◌+◌, ◌-◌, ◌/◌, ◌%◌, ◌≤◌, ◌<◌}
+use Prim.Native.Nat.{ℕ, zero, suc, ◌+◌, ◌-◌, ◌/◌, ◌%◌, ◌≤◌, ◌<◌}
 use native.Mathlib.Omega.{arith}
-use native.Mathlib.Numerals.{add-one}
 use mathlib.Core.List.{List, [], ◌∷◌, ◌++◌, append_assoc, append-nil}
-use lib.ListN.{length, get_or, take, drop, set, length-append, length-drop, take-append-drop, drop_of_length-le}
-use lib.Seq.{length-take-le, take_at, drop_at, drop-drop, drop-cons, paste, paste-zero, paste-suc, length-paste, take_all}
+use lib.ListN.{length, take, drop, length-append, length-drop, take-append-drop, drop_of_length-le}
+use lib.Seq.{length-take-le, take_at, drop_at, drop-drop}
+use borrow.Rule.Slice.PartMut.{put_mid}
 use Rattle.records.specs.Num.{le_bytes}
 use Rattle.records.proofs.Num.{length-le_bytes}
 
-cons : (k y : ℕ) → le_bytes (suc k) y ≡ y % 256 ∷ le_bytes k (y / 256)
+-- ---- the lowest bytes of a number
+
+take-low : (w n x : ℕ) → w ≤ n → take w (le_bytes n x) ≡ le_bytes w x
 unfolding le_bytes
-cons k y = refl
+take-low zero n x h = refl
+take-low (suc w) zero x h = absurd (omega arith)
+take-low (suc w) (suc n) x h = ap (λ (l : List ℕ). x % 256 ∷ l) (take-low w n (x / 256) (omega arith))
 
--- a loop that writes a number, at byte i
-pub record PutAt (d : List ℕ) (at w x : ℕ) (out : List ℕ) (i rest : ℕ) : Type 0 where
-  pub low : i ≤ w
-  pub out-is : out ≡ paste d at (le_bytes w x) i
-  pub rest-is : le_bytes (w - i) rest ≡ drop i (le_bytes w x)
+-- as the library has them
+eight : (x : ℕ) → x % 256 ∷ x / 256 % 256 ∷ x / 65536 % 256 ∷ x / 16777216 % 256 ∷ x / 4294967296 % 256 ∷ x / 1099511627776 % 256
+    ∷ x / 281474976710656 % 256 ∷ x / 72057594037927936 % 256 ∷ [] ≡ le_bytes 8 x
+unfolding le_bytes
+eight x =
+    let e₂ : x / 65536 ≡ x / 256 / 256 = omega arith in
+    let e₃ : x / 16777216 ≡ x / 65536 / 256 = omega arith in
+    let e₄ : x / 4294967296 ≡ x / 16777216 / 256 = omega arith in
+    let e₅ : x / 1099511627776 ≡ x / 4294967296 / 256 = omega arith in
+    let e₆ : x / 281474976710656 ≡ x / 1099511627776 / 256 = omega arith in
+    let e₇ : x / 72057594037927936 ≡ x / 281474976710656 / 256 = omega arith in
+    rw (e₇, e₆, e₅, e₄, e₃, e₂) refl
 
-pub put-start : (d : List ℕ) (at w x : ℕ) → PutAt d at w x d 0 x
-put-start d at w x =
-    let z : w - 0 ≡ w = omega arith in
-    record { low = omega arith; out-is = paste-zero d at (le_bytes w x); rest-is = rw z }
-
-module _ (d : List ℕ) (at w x : ℕ) (out : List ℕ) (i rest : ℕ) (j : PutAt d at w x out i rest) (fits : at + w ≤ length d) where
-  pub put-length : length out ≡ length d
-  put-length =
-      ap length j.out-is ∙ length-paste d at (le_bytes w x) i (omega (arith, j.low)) (omega (arith, j.low, length-le_bytes w x))
-
-  pub put-done : w ≤ i → out ≡ take at d ++ (le_bytes w x ++ drop (at + w) d)
-  put-done h =
-      let z : i ≡ w = omega (arith, j.low) in
-      rw z at j.out-is
-      ∙ ap (λ (l : List ℕ). take at d ++ l ++ drop (at + w) d) (take_all w (le_bytes w x) (omega (arith, length-le_bytes w x)))
-      ∙ append_assoc (take at d) (le_bytes w x) (drop (at + w) d)
-
-  module _ (l : i < w) where
-    split : (rest % 256 ∷ le_bytes (w - (i + 1)) (rest / 256)) ≡ (get_or (le_bytes w x) i 0 ∷ drop (suc i) (le_bytes w x))
-    split =
-        sym (step (w - i) (omega arith)) ∙ j.rest-is ∙ drop-cons (le_bytes w x) i 0 (omega (arith, length-le_bytes w x))
-      where
-        step : (k : ℕ) → k ≡ suc (w - (i + 1)) → le_bytes k rest ≡ rest % 256 ∷ le_bytes (w - (i + 1)) (rest / 256)
-        step k e = rw e (cons (w - (i + 1)) rest)
-
-    pub put_next : PutAt d at w x (set out (at + i) (rest % 256)) (i + 1) (rest / 256)
-    put_next =
-        let b : rest % 256 ≡ get_or (le_bytes w x) i 0 = (cc split) in
-        let t : le_bytes (w - (i + 1)) (rest / 256) ≡ drop (suc i) (le_bytes w x) = (cc split) in
-        record {
-          low = omega arith;
-          out-is = rw (add-one, b, j.out-is) (paste-suc d at (le_bytes w x) i 0 (omega arith) (omega (arith, length-le_bytes w x)));
-          rest-is = t ∙ ap (λ (n : ℕ). drop n (le_bytes w x)) (sym (add-one i));
-        }
+-- the first w of them, copied to a place
+pub number_put : (at w x : ℕ) (d s t : List ℕ) → w ≤ 8 → t ≡ take w s
+    → s ≡ x % 256 ∷ x / 256 % 256 ∷ x / 65536 % 256 ∷ x / 16777216 % 256 ∷ x / 4294967296 % 256 ∷ x / 1099511627776 % 256
+    ∷ x / 281474976710656 % 256 ∷ x / 72057594037927936 % 256 ∷ []
+    → put_mid at (at + w - at) d t ≡ take at d ++ (le_bytes w x ++ drop (at + w) d)
+number_put at w x d s t h e f =
+    let z : at + w - at ≡ w = omega arith in
+    let q : t ≡ le_bytes w x = e ∙ ap (take w) (f ∙ eight x) ∙ take-low w 8 x h in
+    rw (q, z, drop-drop w at d) refl
 
 -- ---- pieces written one after another
 

@@ -2,17 +2,16 @@
 -- are in width is what the writer writes of its contents. Lists with wide words, too, make a file that reads as them (`lists-fit`). Assumes nothing.
 use mathlib.Core.Path.{◌≡◌, refl, ap, ap₂, ◌∙◌}
 use Prim.Native.Nat.{ℕ, zero, suc, ◌+◌, ◌-◌, ◌*◌, ◌^◌, ◌≤◌, ◌<◌}
-use native.Mathlib.Nat.{not-suc-le-zero, le_trans, pow-le-pow_right}
+use native.Mathlib.Nat.{le_trans, pow-le-pow_right}
 use native.Mathlib.Omega.{arith}
 use mathlib.Core.List.{List, [], ◌∷◌, ◌++◌}
 use mathlib.Core.Bool.{true}
-use lib.ListN.{length, get_or, take, drop, length-append, length-drop}
+use lib.ListN.{length, take, drop, length-append, length-drop}
 use lib.Seq.{take_at, drop_at, get_or-take, get_or-drop, length-take-le}
-use lib.Dec.{ltb, lit<}
-use borrow.Author.Tests.{lt-ltb, ltb-true}
+use lib.Dec.{lit<}
 use Rattle.words.specs.Word.{in_width, all_in_width}
 use Rattle.words.specs.declared.Params.{Params}
-use Rattle.words.proofs.Tests.{and_left, and_right, and_yes}
+use Rattle.words.proofs.Tests.{and_left, and_right}
 use Rattle.words.proofs.Width.{in-width-lt}
 use Rattle.records.specs.Num.{Bytes}
 use Rattle.records.specs.Layout.{word_size}
@@ -28,23 +27,9 @@ use Rattle.writer.proofs.Fits.{file-length}
 use Rattle.writer.proofs.Encode.{file-written}
 use Rattle.writer.proofs.Decode.{file-read}
 use Rattle.writer.proofs.Whole.{file-accepted}
-use Rattle.writer.proofs.Calls.{jobs-count, writable, writes}
+use Rattle.writer.proofs.Calls.{jobs-count, writable, writes, rising-at, at-rising}
 
 -- ---- numbers that rise, as a test and by their places
-
-rising-at : (ns : List ℕ) (p : ℕ) → rising ns ≡ true → suc p < length ns → get_or ns p 0 < get_or ns (suc p) 0
-unfolding rising
-rising-at [] p e l = absurd (not-suc-le-zero l)
-rising-at (x ∷ []) p e l = absurd (omega arith)
-rising-at (x ∷ y ∷ ns) zero e l = ltb-true x y (and_left (ltb x y) _ e)
-rising-at (x ∷ y ∷ ns) (suc p) e l = rising-at (y ∷ ns) p (and_right (ltb x y) _ e) (omega arith)
-
-at-rising : (ns : List ℕ) → ((p : ℕ) → suc p < length ns → get_or ns p 0 < get_or ns (suc p) 0) → rising ns ≡ true
-unfolding rising
-at-rising [] f = refl
-at-rising (x ∷ []) f = refl
-at-rising (x ∷ y ∷ ns) f =
-    and_yes (ltb x y) (rising (y ∷ ns)) (lt-ltb x y (f 0 (omega arith))) (at-rising (y ∷ ns) (λ p l. f (suc p) (omega arith)))
 
 -- ---- lent lists make a file that can be written
 

@@ -2,10 +2,15 @@
 use Rattle.std.specs.Prelude.{◌≡◌, ℕ, ◌<◌, List, [], length, get_or}
 use Rattle.records.specs.Num.{Bytes, part}
 use Rattle.records.specs.Layout.{body_at, body_size, job_len}
-use Rattle.bundle.specs.Bundle.{num_of, bundle_fault, bundle_heading, params_of, files_of, job_at, holder_of, allowance_of, no_heading}
+use Rattle.bundle.specs.Bundle.{num_of, bundle_fault, bundle_heading, params_of, files_of, job_at, holder_of, allowance_of}
 use Rattle.bundle.specs.Contents.{Job, File, Bundle, words_of}
+use Rattle.records.specs.declared.Heading.{Heading}
 use Rattle.writer.specs.Bytes.{job_body}
 use Rattle.writer.specs.Write.{job_of}
+
+-- what stands past the last file
+abbrev pub no_heading : Heading
+no_heading = record { params = record { k = 0; d = 0; n = 0; t = 0 }; holder = 0; archive = 0; jobs = 0 }
 
 -- file f of a bundle, and job p of a file: "Places count from 0."
 abbrev pub file_no : Bundle → ℕ → File

@@ -2,7 +2,7 @@
 #![tactic(auto)]
 
 ghost use Rattle.std.specs.Prelude.{◌≡◌, ◌+◌, ◌*◌, ◌≤◌, ◌<◌, [], ◌∷◌, ◌++◌, true, length, take, drop};
-ghost use Rattle.words.specs.Refusal.{kept};
+ghost use Rattle.words.specs.Refusal.{fault_in, kept};
 ghost use Rattle.records.specs.Num.{le_bytes};
 ghost use Rattle.records.specs.Layout.{head_size, job_size, order_size};
 ghost use Rattle.bundle.specs.Bundle.{ranges_ok, holder_ok};
@@ -10,20 +10,14 @@ ghost use Rattle.writer.specs.Bytes.{heading_bytes, words_bytes, job_bytes, jobs
 ghost use Rattle.writer.specs.Write.{job_of, jobs_of, file_for, rising, sizes_ok, write_fault, file_write_fault, order_fault, bundle_write_fault};
 
 use records::Heading;
-use words::Params;
+use words::{Params, Refusal};
 
 // Writes a number as w bytes from position at, lowest first.
 fn put_number(out: &mut [u8], at: usize, w: usize, x: u64)
-    requires { at + w ≤ length out.old }
+    requires { (w ≤ 8) × (at + w ≤ length out.old) }
     ensures { out.new ≡ take at out.old ++ (le_bytes w x ++ drop (at + w) out.old) }
 {
-    let mut i: usize = 0;
-    let mut rest = x;
-    while i < w {
-        out[at + i] = (rest % 256) as u8;
-        rest = rest / 256;
-        i += 1;
-    }
+    out[at..at + w].copy_from_slice(&x.to_le_bytes()[..w]);
 }
 
 // Writes a record's length and kind.
@@ -41,12 +35,13 @@ pub fn put_words(out: &mut [u8], at: usize, words: &[u64], from: usize, d: usize
     ensures { out.new ≡ take at out.old ++
         (words_bytes 8 (take d (drop from words.now)) ++ drop (at + 8 * d) out.old) }
 {
-    let mut i: usize = 0;
-    let mut here = at;
-    while i < d {
-        put_number(out, here, records::WORD_SIZE, words[from + i]);
-        here += records::WORD_SIZE;
-        i += 1;
+    for i in 0..d {
+        put_number(
+            out,
+            at + i * records::WORD_SIZE,
+            records::WORD_SIZE,
+            words[from + i],
+        );
     }
 }
 
@@ -54,14 +49,7 @@ pub fn put_words(out: &mut [u8], at: usize, words: &[u64], from: usize, d: usize
 fn strictly_rising(numbers: &[u64]) -> bool
     ensures { result ≡ rising numbers.now }
 {
-    let mut i: usize = 1;
-    while i < numbers.len() {
-        if numbers[i] <= numbers[i - 1] {
-            return false;
-        }
-        i += 1;
-    }
-    true
+    numbers.is_sorted_by(|a, b| a < b)
 }
 
 // Writes an order at the start.
@@ -74,15 +62,14 @@ fn put_order(out: &mut [u8], e: u8)
 }
 
 // Writes an order.
-pub fn write_order(e: u8, out: &mut [u8]) -> u8
-    ensures { (result ≡ order_fault (length out.old)) ×
+#[tactic(auto, using(words::proofs::Refusals::refusals), unfolding(crate::specs::Write::order_fault))]
+pub fn write_order(e: u8, out: &mut [u8]) -> Result<(), Refusal>
+    ensures { (fault_in result ≡ order_fault (length out.old)) ×
         (out.new ≡ kept (order_fault (length out.old)) out.old (order_bytes e)) }
 {
-    if out.len() != records::ORDER_SIZE {
-        return words::LENGTH;
-    }
+    words::check_length(records::ORDER_SIZE, out.len())?;
     put_order(out, e);
-    0
+    Ok(())
 }
 
 // Writes the four parameters, a byte each.
@@ -133,10 +120,8 @@ fn put_jobs(out: &mut [u8], at: usize, h: Heading, numbers: &[u64], words: &[u64
 {
     let d = h.params.d;
     let size = records::LENGTH_SIZE + records::job_length(h);
-    let mut p: usize = 0;
-    while p < numbers.len() {
+    for p in 0..numbers.len() {
         put_job(out, at + p * size, h, numbers[p], words, p * d);
-        p += 1;
     }
 }
 
@@ -152,26 +137,20 @@ fn sizes_ok(h: Heading, count: usize, size: usize) -> bool
     size == records::file_size(h)
 }
 
-// Why a file is not written, or 0.
-fn write_fault(h: Heading, numbers: &[u64], words: &[u64], size: usize) -> u8
-    ensures { result ≡ write_fault h numbers.now words.now size }
+// Tests what a file is written from. Words are read only where there are as many as there should be.
+#[tactic(auto, using(words::proofs::Refusals::refusals), unfolding(crate::specs::Write::write_fault))]
+fn check_write(h: Heading, numbers: &[u64], words: &[u64], size: usize) -> Result<(), Refusal>
+    ensures { fault_in result ≡ write_fault h numbers.now words.now size }
 {
-    if !bundle::ranges_ok(h) {
-        return words::PARAMETERS;
-    }
-    let k = h.params.k;
-    let lengths = words::unless(sizes_ok(h, words.len(), size), words::LENGTH);
-    // Words are read only where there are as many as there should be.
-    if lengths != 0 {
-        return lengths;
-    }
-    let holder = words::unless(bundle::holder_ok(0, h), words::HOLDER);
-    let order = words::unless(strictly_rising(numbers), words::MALFORMED);
-    let jobs = words::first(order, words::width_fault(k, words));
-    words::first(holder, jobs)
+    words::unless(bundle::ranges_ok(h), Refusal::Parameters)?;
+    words::unless(sizes_ok(h, words.len(), size), Refusal::Length)?;
+    words::unless(bundle::holder_ok(0, h), Refusal::Holder)?;
+    words::unless(strictly_rising(numbers), Refusal::Malformed)?;
+    words::check_width(h.params.k, words)
 }
 
 // Writes a file: its heading, and a job for each number, with d words each.
+#[tactic(auto, using(words::proofs::Refusals::refusals), unfolding(crate::specs::Write::heading_for))]
 pub fn write_file(
     p: Params,
     holder: usize,
@@ -179,8 +158,8 @@ pub fn write_file(
     numbers: &[u64],
     words: &[u64],
     out: &mut [u8],
-) -> u8
-    ensures { (result ≡ file_write_fault p holder archive numbers.now words.now out.old) ×
+) -> Result<(), Refusal>
+    ensures { (fault_in result ≡ file_write_fault p holder archive numbers.now words.now out.old) ×
         (out.new ≡ kept (file_write_fault p holder archive numbers.now words.now out.old) out.old
         (file_bytes (file_for p holder archive numbers.now words.now))) }
 {
@@ -190,13 +169,10 @@ pub fn write_file(
         archive,
         jobs: numbers.len(),
     };
-    let fault = write_fault(h, numbers, words, out.len());
-    if fault != 0 {
-        return fault;
-    }
+    check_write(h, numbers, words, out.len())?;
     put_heading(out, h);
     put_jobs(out, records::head_size(h), h, numbers, words);
-    0
+    Ok(())
 }
 
 // Writes bytes from a position on.
@@ -205,28 +181,20 @@ pub fn put_bytes(out: &mut [u8], at: usize, bytes: &[u8])
     ensures { out.new ≡ take at out.old ++
         (bytes.now ++ drop (at + length bytes.now) out.old) }
 {
-    let mut i: usize = 0;
-    while i < bytes.len() {
-        out[at + i] = bytes[i];
-        i += 1;
-    }
+    out[at..at + bytes.len()].copy_from_slice(bytes);
 }
 
 // Writes a bundle: an order, and after it files as they stand in one lent slice. Files come from their holders already written, so nothing
 // is written of them again; what would not be accepted is declined, with the number that a reader of the bundle would give.
-pub fn write_bundle(e: u8, files: &[u8], out: &mut [u8]) -> u8
-    ensures { (result ≡ bundle_write_fault e files.now (length out.old)) ×
+#[tactic(auto, using(words::proofs::Refusals::refusals, crate::proofs::Orders::bundle_write))]
+pub fn write_bundle(e: u8, files: &[u8], out: &mut [u8]) -> Result<(), Refusal>
+    ensures { (fault_in result ≡ bundle_write_fault e files.now (length out.old)) ×
         (out.new ≡ kept (bundle_write_fault e files.now (length out.old)) out.old
         (order_bytes e ++ files.now)) }
 {
-    let fault = bundle::files_fault(files, 0);
-    if fault != 0 {
-        return fault;
-    }
-    if out.len() != records::ORDER_SIZE + files.len() {
-        return words::LENGTH;
-    }
+    bundle::check_files(files, 0)?;
+    words::check_length(records::ORDER_SIZE + files.len(), out.len())?;
     put_order(out, e);
     put_bytes(out, records::ORDER_SIZE, files);
-    0
+    Ok(())
 }

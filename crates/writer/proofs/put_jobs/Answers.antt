@@ -95,9 +95,6 @@ put_job-requires c =
     let h = ahead (goal.at.put_job-requires c).After-put_job-arg-1 in
     (c.requires.0, omega (arith, h.0, c.loop-p.invariant.same), h.1)
 
-pub loop-p-smaller : goal.loop-p-smaller
-loop-p-smaller c = omega (arith, c.loop-p-test.true)
-
 pub loop-p-preserved : goal.loop-p-preserved
 loop-p-preserved c =
     let a = c.args in

@@ -1,6 +1,6 @@
 -- The loop of `put_jobs`: the first p jobs are written. Assumes nothing.
 use mathlib.Core.Path.{◌≡◌}
-use Prim.Native.Nat.{ℕ, ◌-◌, ◌*◌, ◌≤◌}
+use Prim.Native.Nat.{ℕ, ◌*◌, ◌≤◌}
 use mathlib.Core.List.{List}
 use lib.ListN.{length, take}
 use Rattle.records.specs.Layout.{job_size}
@@ -19,6 +19,3 @@ pub record At (out₀ : List ℕ) (at : ℕ) (h : Heading) (ns ws out : List ℕ
 
 abbrev pub invariant-loop-p : goal.invariant-loop-p
 invariant-loop-p l = At l.initial.out l.at l.h l.numbers l.words l.out l.p
-
-abbrev pub decreases-loop-p : goal.decreases-loop-p
-decreases-loop-p l = length l.numbers - l.p

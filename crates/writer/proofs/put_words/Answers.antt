@@ -25,9 +25,7 @@ word ws from d i l = rw (get_or-take, get_or-drop)
 
 pub loop-i-init : goal.loop-i-init
 unfolding words_bytes
-loop-i-init c =
-    let a = c.args in
-    (omega arith, omega arith, refl, written_none a.out.now a.at (omega (arith, c.requires)))
+loop-i-init c = let a = c.args in (refl, written_none a.out.now a.at (omega (arith, c.requires)))
 
 pub loop-i-preserved : goal.loop-i-preserved
 loop-i-preserved c =
@@ -41,17 +39,13 @@ loop-i-preserved c =
     let x = get_or ws (a.from + l.i) 0 in
     let o = c.put_number.new.out in
     let q : Written d a.at (words_bytes 8 (take l.i (S ws a.from a.d)) ++ le_bytes 8 x) o =
-    written-number d a.at (words_bytes 8 (take l.i (S ws a.from a.d))) l.out o l.here 8 x l.invariant.3
-    (omega (arith, l.invariant.1, size ws a.from a.d l.i p.1 l.invariant.0)) (omega (arith, l.invariant.1))
+    written-number d a.at (words_bytes 8 (take l.i (S ws a.from a.d))) l.out o (a.at + l.i * 8) 8 x l.invariant.1
+    (omega (arith, size ws a.from a.d l.i p.1 (omega (arith, t)))) (omega (arith, p, t))
     c.put_number.ensures in
     let e : words_bytes 8 (take (l.i + 1) (S ws a.from a.d)) ≡ words_bytes 8 (take l.i (S ws a.from a.d)) ++ le_bytes 8 x =
     words_more 8 (S ws a.from a.d) l.i (omega arith) ∙ ap (λ (y : ℕ). words_bytes 8 (take l.i (S ws a.from a.d)) ++ le_bytes 8 y)
-    (word ws a.from a.d l.i t) in (
-      omega arith,
-      omega (arith, l.invariant.1),
-      written-length d a.at (words_bytes 8 (take l.i (S ws a.from a.d)) ++ le_bytes 8 x) o q,
-      rw e q,
-    )
+    (word ws a.from a.d l.i t) in
+    (written-length d a.at (words_bytes 8 (take l.i (S ws a.from a.d)) ++ le_bytes 8 x) o q, rw e q)
 
 pub returns : goal.returns
 returns c =
@@ -60,8 +54,8 @@ returns c =
     let ws = a.words.now in
     let s = S ws a.from a.d in
     let p = c.requires in
-    let z : l.i ≡ a.d = omega (arith, c.loop-i-test.false, l.invariant.0) in
+    let z : l.i ≡ a.d = omega (arith, c.loop-i-test.false, l.auto.i-end) in
     let n = count ws a.from a.d p.1 in
     let k : take l.i s ≡ s = take_all l.i s (omega arith) in
-    written-end a.out.now a.at (words_bytes 8 s) l.out (8 * a.d) (rw k at l.invariant.3)
+    written-end a.out.now a.at (words_bytes 8 s) l.out (8 * a.d) (rw k at l.invariant.1)
     (words_length 8 s ∙ ap (λ (m : ℕ). 8 * m) n)
