@@ -9,9 +9,10 @@ use lib.Dec.{leb, ltb, eqb}
 use lib.ListN.{length, get_or, set}
 use borrow.Author.Tests.{lt-ltb, le-ltb, le-leb, lt-leb, ne_eqb, leb-true, ltb-true}
 use Rattle.words.specs.Faults.{length_fault}
-use Rattle.words.specs.Refusal.{first, kept, PARAMETERS, LENGTH, DESK_CLOSED}
+use Rattle.words.specs.Refusal.{number_of, first, kept, PARAMETERS, LENGTH, DESK_CLOSED}
+use Rattle.words.specs.declared.Refusal.{Refusal}
 use Rattle.words.proofs.Faults.{clear-length}
-use Rattle.words.proofs.Refusals.{first-right, first-none, first_some, kept-none, kept-some, unless-held, unless-yes, unless-no, stop}
+use Rattle.words.proofs.Refusals.{first-right, first-none, first_some, kept-none, kept-some, unless-held, unless-yes, unless-no, stop, number-some}
 use Rattle.codewords.specs.Opening.{Opening, declines, opens, fault_of, unless_fault, JobState}
 use Rattle.codewords.proofs.Opening.{unless-none, unless-some}
 use Rattle.bundle.specs.Bundle.{bundle_heading}
@@ -48,17 +49,6 @@ closed-below q c h = unless-yes (ltb c q) DESK_CLOSED (lt-ltb c q h)
 pub below-closed : (q c : ℕ) → closed_fault q c ≡ 0 → c < q
 unfolding closed_fault
 below-closed q c e = ltb-true c q (unless-held (ltb c q) DESK_CLOSED (omega arith) e)
-
--- ---- one step
-
-pub step-shut : (q c f g : ℕ) → g ≡ first f (closed_fault q c) → (g ≡ 0 → ⊥) → c ≡ kept (first f (closed_fault q c)) c (c + 1)
-step-shut q c f g e y = sym (kept-some (first f (closed_fault q c)) c (c + 1) (λ x. y (e ∙ x)))
-
-pub step_through : (q c f g : ℕ) → g ≡ first f (closed_fault q c) → g ≡ 0 →
-    (c < q) × (0 ≡ first f (closed_fault q c)) × (c + 1 ≡ kept (first f (closed_fault q c)) c (c + 1))
-step_through q c f g e z =
-    let x = sym e ∙ z in
-    (below-closed q c (first-right f (closed_fault q c) x), sym x, sym (kept-none (first f (closed_fault q c)) c (c + 1) x))
 
 -- ---- an opening
 
@@ -127,6 +117,13 @@ pub count-opened : (c f : ℕ) (o : Opening) → Proper o → f ≡ fault_of o �
 count-opened c f (declines g) h e z = absurd (h (sym e ∙ z))
 count-opened c f (opens q) h e z = refl
 
+-- a refusal leaves the count and the record, and words given add one
+pub count_refused : (e : Refusal) (c : ℕ) (o : Opening) → number_of e ≡ fault_of o → c ≡ count_after c o
+count_refused e c o h = count-declined c (number_of e) o h (number-some e)
+
+pub count_passed : (c : ℕ) (bs : List ℕ) (p : ℕ) → 0 ≡ fault_of (place_opening bs p) → c + 1 ≡ count_after c (place_opening bs p)
+count_passed c bs p h = count-opened c 0 (place_opening bs p) (place-proper bs p) h refl
+
 pub record-kept : (r : List ℕ) (o : Opening) → Proper o → record_into r o ≡ kept (fault_of o) r (get_or r 0 0 ∷ (get_or r 1 0 + 1) ∷ [])
 record-kept r (declines zero) h = absurd (h refl)
 record-kept r (declines (suc f)) h = refl
@@ -158,11 +155,11 @@ record-set [] o h = absurd (omega (arith, h))
 record-set (a ∷ []) o h = absurd (omega (arith, h))
 record-set (a ∷ c ∷ x ∷ l) o h = absurd (omega (arith, h))
 
-pub start-set : (r : List ℕ) (q : ℕ) → length r ≡ 2 → set (set r 0 q) 1 0 ≡ q ∷ 0 ∷ []
-start-set (a ∷ c ∷ []) q h = refl
-start-set [] q h = absurd (omega (arith, h))
-start-set (a ∷ []) q h = absurd (omega (arith, h))
-start-set (a ∷ c ∷ x ∷ l) q h = absurd (omega (arith, h))
+pub start_set : (r : List ℕ) (q a c : ℕ) → length r ≡ 2 → a ≡ q → c ≡ 0 → set (set r 0 a) 1 c ≡ q ∷ 0 ∷ []
+start_set (x ∷ y ∷ []) q a c h e f = rw (e, f) refl
+start_set [] q a c h e f = absurd (omega (arith, h))
+start_set (x ∷ []) q a c h e f = absurd (omega (arith, h))
+start_set (x ∷ y ∷ z ∷ l) q a c h e f = absurd (omega (arith, h))
 
 -- ---- the calls over a lent desk are those over its words
 
@@ -184,3 +181,5 @@ module _ (d : Desk) where
       go : (f : ℕ) → kept f (record_of d) (q ∷ 0 ∷ []) ≡ kept f d.allowance q ∷ kept f d.count 0 ∷ []
       go zero = refl
       go (suc f) = refl
+
+pub ruleset counted = (count_refused, count_passed)
