@@ -9,7 +9,10 @@ use borrow.Author.Tests.{ltb-true}
 use lib.Dec.{ltb, eqb, lit<}
 use lib.ListN.{length, get_or, length-append}
 use lib.Count.{count_trailing_zeros}
+use Rattle.words.specs.declared.Refusal.{Refusal}
+use Rattle.words.specs.declared.Refusal.TheVariants.{Parameters, Length, WideWord, Holder, TooFewShares, NoCodeword, Malformed, Mismatched, OutOfRange, DeskClosed, Text}
 use Rattle.words.specs.declared.Signed.{Signed}
+use Rattle.words.specs.Refusal.{number_of}
 use Rattle.words.specs.Signed.{signed_of}
 use Rattle.decimal.specs.Decimal.{ascii, decimal, signed_text}
 use Rattle.text.specs.Text.{after_commas, joined, holders_from, holders, holder_text, holders_text, words_text}
@@ -44,6 +47,20 @@ unfolding refused_line
 refused-parts n = refl
 
 -- ---- how long they are
+
+-- a refusal's number has two digits at most
+pub number-le : (r : Refusal) → number_of r ≤ 11
+number-le Parameters = omega arith
+number-le Length = omega arith
+number-le WideWord = omega arith
+number-le Holder = omega arith
+number-le TooFewShares = omega arith
+number-le NoCodeword = omega arith
+number-le Malformed = omega arith
+number-le Mismatched = omega arith
+number-le OutOfRange = omega arith
+number-le DeskClosed = omega arith
+number-le Text = omega arith
 
 -- joined texts are no longer than those after commas, or a `-`
 joined_length : (texts : List (List ℕ)) → length (joined texts) ≤ length (after_commas texts) + 1

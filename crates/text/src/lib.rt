@@ -2,11 +2,14 @@
 #![tactic(auto)]
 
 ghost use Rattle.std.specs.Prelude.{◌≡◌, true, ◌+◌, ◌≤◌, length, take};
+ghost use Rattle.words.specs.Refusal.{number_of};
 ghost use Rattle.words.specs.Word.{all_in_width};
 ghost use Rattle.decimal.specs.Decimal.{written};
 ghost use Rattle.text.specs.Text.{holder_text, holders_text, words_text, readings};
 ghost use Rattle.text.specs.Text.{line_room, head_line, refused_line, open_line, declined_line};
 ghost use Rattle.text.specs.Text.{holders, report_room, changed_line, changed_lines, kept_line};
+
+use words::Refusal;
 
 // Every line fits into so many bytes: the definition's line_room.
 pub const LINE: usize = 1024;
@@ -77,12 +80,13 @@ pub fn put_head(out: &mut [u8], at: usize) -> usize
 }
 
 // The one line of a declined bundle.
-pub fn put_refused(out: &mut [u8], at: usize, n: u8) -> usize
+pub fn put_refused(out: &mut [u8], at: usize, refusal: Refusal) -> usize
     requires { at + line_room ≤ length out.old }
-    ensures { (out.new ≡ written at (refused_line n) out.old) × (result ≡ at + length (refused_line n)) }
+    ensures { (out.new ≡ written at (refused_line (number_of refusal)) out.old)
+        × (result ≡ at + length (refused_line (number_of refusal))) }
 {
     let p = decimal::put_bytes(out, at, b"refused ");
-    let q = decimal::put_decimal(out, p, n as u64);
+    let q = decimal::put_decimal(out, p, refusal.number() as u64);
     decimal::put_byte(out, q, b'\n')
 }
 
@@ -111,14 +115,14 @@ pub fn put_open_line(
 }
 
 // The line of a job that did not open, with the number that says why.
-pub fn put_declined_line(out: &mut [u8], at: usize, number: u64, state: u8) -> usize
+pub fn put_declined_line(out: &mut [u8], at: usize, number: u64, refusal: Refusal) -> usize
     requires { at + line_room ≤ length out.old }
-    ensures { (out.new ≡ written at (declined_line number state) out.old)
-        × (result ≡ at + length (declined_line number state)) }
+    ensures { (out.new ≡ written at (declined_line number (number_of refusal)) out.old)
+        × (result ≡ at + length (declined_line number (number_of refusal))) }
 {
     let p = decimal::put_decimal(out, at, number);
     let q = decimal::put_byte(out, p, b' ');
-    let r = decimal::put_decimal(out, q, state as u64);
+    let r = decimal::put_decimal(out, q, refusal.number() as u64);
     decimal::put_bytes(out, r, b" - -\n")
 }
 
@@ -153,11 +157,12 @@ pub fn put_changes(out: &mut [u8], at: usize, number: u64, set: u64) -> usize
 }
 
 // The line of a job that keeps its bytes, with the number that says why.
-pub fn put_kept(out: &mut [u8], at: usize, number: u64, n: u8) -> usize
+pub fn put_kept(out: &mut [u8], at: usize, number: u64, refusal: Refusal) -> usize
     requires { at + report_room ≤ length out.old }
-    ensures { (out.new ≡ written at (kept_line number n) out.old) × (result ≡ at + length (kept_line number n)) }
+    ensures { (out.new ≡ written at (kept_line number (number_of refusal)) out.old)
+        × (result ≡ at + length (kept_line number (number_of refusal))) }
 {
     let p = decimal::put_decimal(out, at, number);
     let q = decimal::put_byte(out, p, b' ');
-    put_refused(out, q, n)
+    put_refused(out, q, refusal)
 }

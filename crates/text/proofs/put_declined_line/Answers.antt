@@ -4,7 +4,8 @@ use Prim.Native.Nat.{ℕ}
 use Rattle.decimal.specs.Decimal.{ascii, decimal}
 use Rattle.decimal.proofs.Written.{Part, part_room, part-more}
 use Rattle.decimal.proofs.Decimal.{twenty}
-use Rattle.text.proofs.Lines.{declined-parts}
+use Rattle.words.specs.Refusal.{number_of}
+use Rattle.text.proofs.Lines.{number-le, declined-parts}
 use Rattle.text.proofs.put_declined_line.Goals as goal
 use Rattle.text.proofs.put_declined_line.Goals.{After-put_byte-q, After-put_bytes, After-put_decimal-p, After-put_decimal-r, Start}
 
@@ -27,13 +28,13 @@ part2 c =
     part-more (ascii " ") 1 (omega arith) (omega (arith, c.requires)) (part1 b) c.put_byte-q.ensures c.put_byte-q.auto.out
 
 abbrev text3 : Start → List ℕ
-text3 s = text2 s ++ decimal s.args.state
+text3 s = text2 s ++ decimal (number_of s.args.refusal)
 
 part3 : (c : After-put_decimal-r) → Upto (goal.at.After-put_decimal-r c).Start 41 (text3 (goal.at.After-put_decimal-r c).Start) c.put_decimal-r.new.out c.put_decimal-r.result
 part3 c =
     let b = (goal.at.After-put_decimal-r c).After-put_byte-q in
-    part-more (decimal c.args.state) 20 (twenty c.args.state (omega arith))
-    (omega (arith, c.requires)) (part2 b) c.put_decimal-r.ensures c.put_decimal-r.auto.out
+    part-more (decimal (number_of c.args.refusal)) 20 (twenty (number_of c.args.refusal) (omega (arith, number-le c.args.refusal)))
+    (omega (arith, c.requires)) (part2 b) (rw c.number.ensures at c.put_decimal-r.ensures) c.put_decimal-r.auto.out
 
 abbrev text4 : Start → List ℕ
 text4 s = text3 s ++ ascii " - -\n"
@@ -50,10 +51,13 @@ pub put_byte-q-requires : goal.put_byte-q-requires
 put_byte-q-requires c = part_room (ascii " ") 1 (omega arith) (omega (arith, c.requires)) (part1 (goal.at.put_byte-q-requires c).After-put_decimal-p)
 
 pub put_decimal-r-requires : goal.put_decimal-r-requires
-put_decimal-r-requires c = part_room (decimal c.args.state) 20 (twenty c.args.state (omega arith)) (omega (arith, c.requires)) (part2 (goal.at.put_decimal-r-requires c).After-put_byte-q)
+put_decimal-r-requires c =
+    rw c.number.ensures
+    (part_room (decimal (number_of c.args.refusal)) 20 (twenty (number_of c.args.refusal) (omega (arith, number-le c.args.refusal)))
+    (omega (arith, c.requires)) (part2 (goal.at.put_decimal-r-requires c).After-put_byte-q))
 
 pub put_bytes-requires : goal.put_bytes-requires
 put_bytes-requires c = part_room (ascii " - -\n") 5 (omega arith) (omega (arith, c.requires)) (part3 (goal.at.put_bytes-requires c).After-put_decimal-r)
 
 pub returns : goal.returns
-returns c = rw (declined-parts c.args.number c.args.state) (part4 (goal.at.returns c).After-put_bytes).wrote
+returns c = rw (declined-parts c.args.number (number_of c.args.refusal)) (part4 (goal.at.returns c).After-put_bytes).wrote

@@ -6,7 +6,8 @@ use Rattle.decimal.specs.Decimal.{ascii, decimal}
 use Rattle.text.specs.Text.{line_room, refused_line, kept_line}
 use Rattle.decimal.proofs.Written.{Part, part_room, part-more}
 use Rattle.decimal.proofs.Decimal.{twenty}
-use Rattle.text.proofs.Lines.{refused-length}
+use Rattle.words.specs.Refusal.{number_of}
+use Rattle.text.proofs.Lines.{number-le, refused-length}
 use Rattle.text.proofs.put_kept.Goals as goal
 use Rattle.text.proofs.put_kept.Goals.{After-put_byte-q, After-put_decimal-p, After-put_refused, Start}
 
@@ -29,12 +30,12 @@ part2 c =
     part-more (ascii " ") 1 (omega arith) (omega (arith, c.requires)) (part1 b) c.put_byte-q.ensures c.put_byte-q.auto.out
 
 abbrev text3 : Start → List ℕ
-text3 s = text2 s ++ refused_line s.args.n
+text3 s = text2 s ++ refused_line (number_of s.args.refusal)
 
 part3 : (c : After-put_refused) → Upto (goal.at.After-put_refused c).Start (21 + line_room) (text3 (goal.at.After-put_refused c).Start) c.put_refused.new.out c.put_refused.result
 part3 c =
     let b = (goal.at.After-put_refused c).After-put_byte-q in
-    part-more (refused_line c.args.n) line_room (refused-length c.args.n (omega arith))
+    part-more (refused_line (number_of c.args.refusal)) line_room (refused-length (number_of c.args.refusal) (omega (arith, number-le c.args.refusal)))
     (omega (arith, c.requires)) (part2 b) c.put_refused.ensures c.put_refused.auto.out
 
 pub put_decimal-p-requires : goal.put_decimal-p-requires

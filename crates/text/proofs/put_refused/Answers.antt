@@ -4,7 +4,8 @@ use Prim.Native.Nat.{ℕ}
 use Rattle.decimal.specs.Decimal.{ascii, decimal}
 use Rattle.decimal.proofs.Written.{Part, part_room, part-more}
 use Rattle.decimal.proofs.Decimal.{twenty}
-use Rattle.text.proofs.Lines.{refused-parts}
+use Rattle.words.specs.Refusal.{number_of}
+use Rattle.text.proofs.Lines.{number-le, refused-parts}
 use Rattle.text.proofs.put_refused.Goals as goal
 use Rattle.text.proofs.put_refused.Goals.{After-put_byte, After-put_bytes-p, After-put_decimal-q, Start}
 
@@ -19,13 +20,13 @@ part1 : (c : After-put_bytes-p) → Upto (goal.at.After-put_bytes-p c).Start 8 (
 part1 c = record { wrote = c.put_bytes-p.ensures; kept = c.put_bytes-p.auto.out; short = omega arith }
 
 abbrev text2 : Start → List ℕ
-text2 s = text1 s ++ decimal s.args.n
+text2 s = text1 s ++ decimal (number_of s.args.refusal)
 
 part2 : (c : After-put_decimal-q) → Upto (goal.at.After-put_decimal-q c).Start 28 (text2 (goal.at.After-put_decimal-q c).Start) c.put_decimal-q.new.out c.put_decimal-q.result
 part2 c =
     let b = (goal.at.After-put_decimal-q c).After-put_bytes-p in
-    part-more (decimal c.args.n) 20 (twenty c.args.n (omega arith))
-    (omega (arith, c.requires)) (part1 b) c.put_decimal-q.ensures c.put_decimal-q.auto.out
+    part-more (decimal (number_of c.args.refusal)) 20 (twenty (number_of c.args.refusal) (omega (arith, number-le c.args.refusal)))
+    (omega (arith, c.requires)) (part1 b) (rw c.number.ensures at c.put_decimal-q.ensures) c.put_decimal-q.auto.out
 
 abbrev text3 : Start → List ℕ
 text3 s = text2 s ++ ascii "\n"
@@ -36,10 +37,13 @@ part3 c =
     part-more (ascii "\n") 1 (omega arith) (omega (arith, c.requires)) (part2 b) c.put_byte.ensures c.put_byte.auto.out
 
 pub put_decimal-q-requires : goal.put_decimal-q-requires
-put_decimal-q-requires c = part_room (decimal c.args.n) 20 (twenty c.args.n (omega arith)) (omega (arith, c.requires)) (part1 (goal.at.put_decimal-q-requires c).After-put_bytes-p)
+put_decimal-q-requires c =
+    rw c.number.ensures
+    (part_room (decimal (number_of c.args.refusal)) 20 (twenty (number_of c.args.refusal) (omega (arith, number-le c.args.refusal)))
+    (omega (arith, c.requires)) (part1 (goal.at.put_decimal-q-requires c).After-put_bytes-p))
 
 pub put_byte-requires : goal.put_byte-requires
 put_byte-requires c = part_room (ascii "\n") 1 (omega arith) (omega (arith, c.requires)) (part2 (goal.at.put_byte-requires c).After-put_decimal-q)
 
 pub returns : goal.returns
-returns c = rw (refused-parts c.args.n) (part3 (goal.at.returns c).After-put_byte).wrote
+returns c = rw (refused-parts (number_of c.args.refusal)) (part3 (goal.at.returns c).After-put_byte).wrote
