@@ -17,9 +17,7 @@ use Rattle.codewords.proofs.Value.{free-element}
 use Rattle.records.specs.declared.Heading.{Heading}
 use Rattle.bundle.specs.Bundle.{num_of, job_at, params_of, allowance_of, bundle_heading}
 use Rattle.archive.specs.Archive.{shares_at, place_opening}
-use Rattle.decimal.specs.Decimal.{written}
-use Rattle.text.specs.Text.{line_room, open_line, declined_line, readings}
-use Rattle.decimal.proofs.Written.{written_none}
+use Rattle.text.specs.Text.{open_line, declined_line, readings}
 use Rattle.listing.specs.Listing.{line_by, line_of}
 
 -- the job of an opened place is an element: d words, in width
@@ -77,7 +75,3 @@ module _ (bs : List ℕ) (p : ℕ) (h : Heading) (e : h ≡ bundle_heading bs) (
         ∙ ap₂ (λ (y : ℕ) (ws : List ℕ). open_line number y (positions h.params.k h.params.d q (shares_at bs p)) (map (signed_of h.params.k) ws))
         (sym set_is) (sym first-row)
         ∙ ap (λ (l : List ℕ). open_line number w l (readings h.params.k h.params.d (get_or rows 0 []))) (sym x)
-
--- a piece with nothing to write
-pub wrote_none : (old text : List ℕ) → text ≡ [] → (old ≡ written 0 text old) × (0 ≡ length text) × (0 ≤ line_room)
-wrote_none old text e = (sym (ap (λ (t : List ℕ). written 0 t old) e ∙ written_none old 0), sym (ap length e), omega arith)

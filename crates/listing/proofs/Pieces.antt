@@ -1,8 +1,8 @@
 -- The pieces of a text: each but those past the last has a byte, so they end; joined they are the text of the listing; and what is written after
--- any number of them is a beginning of it. And the printers of an input. Assumes nothing.
+-- any number of them is a beginning of it. Assumes nothing.
 use mathlib.Core.Path.{◌≡◌, refl, sym, ap, ap₂, ◌∙◌}
 use mathlib.Core.List.{List, [], ◌++◌, map, append-nil}
-use Prim.Native.Nat.{ℕ, zero, suc, ◌+◌, ◌-◌, ◌≤◌, ◌<◌, min}
+use Prim.Native.Nat.{ℕ, zero, suc, ◌+◌, ◌-◌, ◌≤◌, ◌<◌}
 use native.Mathlib.Decide.{dec_le}
 use native.Mathlib.Omega.{arith}
 use borrow.Author.Tests.{le-ltb, lt-ltb}
@@ -13,15 +13,13 @@ use Rattle.words.specs.declared.Params.{Params}
 use Rattle.codewords.specs.Codeword.{Share, error_set, positions}
 use Rattle.codewords.specs.Opening.{Opening, declines, opens}
 use Rattle.bundle.specs.Bundle.{bundle_heading, params_of, num_of, job_at, most_jobs}
-use Rattle.bundle.specs.declared.Accepted.{Accepted}
 use Rattle.bundle.proofs.Bundles.{bundle-ok, bundle-ranges}
 use Rattle.archive.specs.Archive.{shares_at, place_opening}
 use Rattle.decimal.specs.Decimal.{ascii, decimal}
 use Rattle.text.specs.Text.{joined, holders_text, words_text, head_line, refused_line, job_line, open_line, declined_line}
 use Rattle.text.proofs.Runs.{run-add, run-empty}
 use Rattle.listing.specs.Listing.{line_by, line_of, lines_from, input_fault, unless_refused, listing_of}
-use Rattle.listing.specs.Pieces.{piece_by, piece, pieces_in, pieces_from, accepted_input, printer_at}
-use Rattle.listing.specs.declared.Printer.{Printer}
+use Rattle.listing.specs.Pieces.{piece_by, piece, pieces_in, pieces_from}
 use Rattle.listing.proofs.Input.{fault-none}
 
 -- ---- which pieces have a byte
@@ -128,7 +126,7 @@ pieces-begin bs i =
     ∙ pieces-add bs 0 i (pieces_in bs - i)
     ∙ pieces-list bs (i + (pieces_in bs - i)) (omega arith)
 
--- ---- printers
+-- ---- how many there are
 
 -- a bundle has at most 1,000 jobs
 pub pieces-few : (bs : List ℕ) → pieces_in bs ≤ suc most_jobs
@@ -138,52 +136,3 @@ pieces-few bs = go (input_fault bs) refl
     go : (c : ℕ) → input_fault bs ≡ c → kept c 1 (suc (bundle_heading bs).jobs) ≤ suc most_jobs
     go zero e = let r = bundle-ranges bs (bundle-ok bs (fault-none bs e)) in omega (arith, r.jobs_high)
     go (suc c) e = omega arith
-
-module _ (bs : List ℕ) (p : Printer) where
-  -- a printer is that of the piece that it says is next
-  pub printer-own : (i : ℕ) → p ≡ printer_at bs i → p ≡ printer_at bs p.next
-  unfolding printer_at
-  printer-own i e =
-      let n : p.next ≡ min i (pieces_in bs) = ap (λ (q : Printer). q.next) e in
-      let m : min i (pieces_in bs) ≡ min p.next (pieces_in bs) = omega (arith, n) in
-      e ∙ ap (λ (k : ℕ). record { accepted = accepted_input bs; next = k }) m
-
-  module _ (e : p ≡ printer_at bs p.next) where
-    pub printer-accepted : p.accepted ≡ accepted_input bs
-    unfolding printer_at
-    printer-accepted = ap (λ (q : Printer). q.accepted) e
-
-    pub printer-within : p.next ≤ pieces_in bs
-    unfolding printer_at
-    printer-within = let n : p.next ≡ min p.next (pieces_in bs) = ap (λ (q : Printer). q.next) e in omega (arith, n)
-
-    -- the next printer, and where there is no next piece the same
-    pub printer-next : (length (piece bs p.next) ≡ 0 → ⊥) → record { accepted = p.accepted; next = p.next + 1 } ≡ printer_at bs (p.next + 1)
-    unfolding printer_at
-    printer-next n =
-        let h : p.next < pieces_in bs = piece-more bs p.next n in
-        let m : p.next + 1 ≡ min (p.next + 1) (pieces_in bs) = omega (arith, h) in
-        ap₂ (λ (a : Accepted) (k : ℕ). record { accepted = a; next = k }) printer-accepted m
-
-    pub printer-stays : length (piece bs p.next) ≡ 0 → p ≡ printer_at bs (p.next + 1)
-    unfolding printer_at
-    printer-stays z =
-        let h : pieces_in bs ≤ p.next = piece-last bs p.next z in
-        let m : min p.next (pieces_in bs) ≡ min (p.next + 1) (pieces_in bs) = omega (arith, h) in
-        e ∙ ap (λ (k : ℕ). record { accepted = accepted_input bs; next = k }) m
-
--- a piece that is not empty leaves fewer
-pub printer-falls : (bs : List ℕ) (p q : Printer) → q ≡ printer_at bs (p.next + 1) → (length (piece bs p.next) ≡ 0 → ⊥)
-    → pieces_in bs - q.next < pieces_in bs - p.next
-unfolding printer_at
-printer-falls bs p q e n =
-    let h : p.next < pieces_in bs = piece-more bs p.next n in
-    let m : q.next ≡ min (p.next + 1) (pieces_in bs) = ap (λ (x : Printer). x.next) e in
-    omega (arith, h, m)
-
--- the first
-pub printer-start : (bs : List ℕ) (a : Accepted) → a ≡ accepted_input bs → record { accepted = a; next = 0 } ≡ printer_at bs 0
-unfolding printer_at
-printer-start bs a e =
-    let m : 0 ≡ min 0 (pieces_in bs) = omega arith in
-    ap₂ (λ (x : Accepted) (k : ℕ). record { accepted = x; next = k }) e m

@@ -1,11 +1,12 @@
 -- The text of a listing in the pieces that the program writes one at a time, paper 01, "The opened bundle". Assumes nothing.
-use Rattle.std.specs.Prelude.{ℕ, zero, suc, min, cond, List, [], ◌++◌, ltb}
-use Rattle.words.specs.Refusal.{kept}
-use Rattle.bundle.specs.Bundle.{bundle_heading, files_of, no_heading}
-use Rattle.bundle.specs.declared.Accepted.{Accepted}
+use Rattle.std.specs.Prelude.{◌≡◌, ℕ, zero, suc, cond, List, [], ◌++◌, ltb, Result}
+use Rattle.std.specs.Result.{ForOk}
+use Rattle.words.specs.Refusal.{kept, fault_in}
+use Rattle.words.specs.declared.Refusal.{Refusal}
+use Rattle.bundle.specs.Bundle.{bundle_heading}
+use Rattle.bundle.specs.declared.Bundle.{Bundle}
 use Rattle.text.specs.Text.{head_line, refused_line}
 use Rattle.listing.specs.Listing.{line_of, input_fault}
-use Rattle.listing.specs.declared.Printer.{Printer}
 
 -- "A declined bundle prints only `refused N`", or the first line and then a line a place, and nothing after it: piece i, by the input's fault
 abbrev pub piece_by : ℕ → List ℕ → ℕ → List ℕ
@@ -27,14 +28,6 @@ unfoldable pub pieces_from : List ℕ → ℕ → ℕ → List ℕ
 pieces_from bs i zero = []
 pieces_from bs i (suc n) = piece bs i ++ pieces_from bs (suc i) n
 
--- what accepting bytes gives, by a fault
-abbrev pub accepted_by : ℕ → List ℕ → Accepted
-accepted_by c bs = record { fault = c; files = kept c 0 (files_of bs); heading = kept c no_heading (bundle_heading bs) }
-
--- an input: as accepting its bytes does, but by the input's fault
-unfoldable pub accepted_input : List ℕ → Accepted
-accepted_input bs = accepted_by (input_fault bs) bs
-
--- the printer of an input before piece i; past the last it stays
-unfoldable pub printer_at : List ℕ → ℕ → Printer
-printer_at bs i = record { accepted = accepted_input bs; next = min i (pieces_in bs) }
+-- r is what accepting the bytes bs gives, where c is their fault
+abbrev pub Accepts : Result Bundle Refusal → ℕ → List ℕ → Type 0
+Accepts r c bs = (fault_in r ≡ c) × ForOk r (λ b. b.bytes.now ≡ bs)
