@@ -214,6 +214,16 @@ module _ (bs : List ℕ) (z : bundle_fault bs ≡ 0) where
     unfolding mended_to
     mended-skip p f e = same_bytes (words_to bs p f) (words_to bs p (f + 1)) (λ g q l m. words-skip bs p f g q e)
 
+    -- a place that does not open: no file changes
+    pub mended-past : (p c : ℕ) → place_opening bs p ≡ declines c → mended_to bs p 0 ≡ mended_to bs (p + 1) 0
+    mended-past p c e = go (files_of bs) ∙ mended-turn p
+      where
+        go : (f : ℕ) → mended_to bs p 0 ≡ mended_to bs p f
+        go zero = refl
+        go (suc f) =
+            let n : f + 1 ≡ suc f = omega arith in
+            go f ∙ mended-skip p f (mended-declined bs f p c e) ∙ ap (mended_to bs p) n
+
     pub mended-put : (p f : ℕ) → f < files_of bs → p < (bundle_heading bs).jobs →
         let h = bundle_heading bs in
         let at = words_at (job_at bs f p) in

@@ -2,31 +2,33 @@
 #![tactic(auto)]
 
 ghost use Rattle.std.specs.Prelude.{◌≡◌, ◌+◌, ◌≤◌, ◌<◌, eqb, length};
-ghost use Rattle.words.specs.Refusal.{kept};
+ghost use Rattle.words.specs.Refusal.{fault_in, kept};
+ghost use Rattle.records.specs.Num.{Bytes};
 ghost use Rattle.galois.specs.Element.{point, held};
 ghost use Rattle.polynomial.specs.Polynomial.{value};
 ghost use Rattle.polynomial.specs.Rows.{coefs};
 ghost use Rattle.codewords.specs.Demand.{bit_for};
 ghost use Rattle.codewords.specs.Opening.{fault_of, wrong_of, opening_in};
-ghost use Rattle.bundle.specs.Bundle.{bundle_fault, bundle_heading, files_of};
+ghost use Rattle.decoder.specs.Decoded.{wrong_in};
 ghost use Rattle.archive.specs.Archive.{shares_at, place_opening};
 ghost use Rattle.decimal.specs.Decimal.{written};
 ghost use Rattle.text.specs.Text.{report_room};
-ghost use Rattle.listing.specs.Pieces.{accepted_input};
+ghost use Rattle.listing.specs.Listing.{input_fault};
+ghost use Rattle.listing.specs.Pieces.{Accepts};
 ghost use Rattle.mending.specs.Mended.{mended, mend_fault};
 ghost use Rattle.mending.specs.Progress.{mended_to, output_at};
 ghost use Rattle.mending.specs.Report.{changes_at, report_piece, report_pieces};
 
-use bundle::Accepted;
-use decoder::Opened;
+use bundle::Bundle;
 use records::Heading;
+use words::Refusal;
 
-// Whether an opening names a holder.
-fn names(opened: Opened, holder: u64) -> bool
+// Whether a set names a holder.
+fn names(wrong: u64, holder: u64) -> bool
     requires { (1 ≤ holder) × (holder ≤ 63) }
-    ensures { result ≡ eqb (bit_for holder opened.wrong) 1 }
+    ensures { result ≡ eqb (bit_for holder wrong) 1 }
 {
-    (opened.wrong >> (holder - 1)) % 2 == 1
+    (wrong >> (holder - 1)) % 2 == 1
 }
 
 // The value of the polynomial in the rows at a holder's point.
@@ -38,24 +40,25 @@ fn value_at(h: Heading, rows: [[u64; 6]; 64], holder: u64) -> [u64; 6]
     polynomial::eval(h.params.k, h.params.d, rows, h.params.t + 1, holder)
 }
 
-// Mends the job at a place in file f: if its holder is wrong, the value of the polynomial in the rows goes over its words.
+// Mends the job at a place that opened in file f: if its holder is wrong, the value of the polynomial in the rows goes over its words.
 fn mend_file(
-    bytes: &[u8],
-    h: Heading,
+    bundle: &Bundle,
     f: usize,
     place: usize,
-    opened: Opened,
+    wrong: u64,
     rows: [[u64; 6]; 64],
     out: &mut [u8],
 )
-    requires { (bundle_fault bytes.now ≡ 0) × (h ≡ bundle_heading bytes.now) × (f < files_of bytes.now) × (place < h.jobs)
-        × (opening_in h.params.d h.params.t opened.fault rows ≡ place_opening bytes.now place)
-        × (opened.wrong ≡ wrong_of h.params.k h.params.d (shares_at bytes.now place) (place_opening bytes.now place))
-        × (out.old ≡ mended_to bytes.now place f) }
-    ensures { out.new ≡ mended_to bytes.now place (f + 1) }
+    requires { Bytes bundle.now.bytes.now × (f < bundle.now.files) × (place < bundle.now.heading.jobs)
+        × (opening_in bundle.now.heading.params.d bundle.now.heading.params.t 0 rows ≡ place_opening bundle.now.bytes.now place)
+        × (wrong ≡ wrong_of bundle.now.heading.params.k bundle.now.heading.params.d (shares_at bundle.now.bytes.now place)
+        (place_opening bundle.now.bytes.now place))
+        × (out.old ≡ mended_to bundle.now.bytes.now place f) }
+    ensures { out.new ≡ mended_to bundle.now.bytes.now place (f + 1) }
 {
-    let holder = fetch::file_holder(bytes, h, f) as u64;
-    if !names(opened, holder) {
+    let h = bundle.heading;
+    let holder = fetch::file_holder(bundle, f) as u64;
+    if !names(wrong, holder) {
         return;
     }
     let d = h.params.d;
@@ -65,123 +68,100 @@ fn mend_file(
 }
 
 // The same in every file.
-fn mend_files(
-    bytes: &[u8],
-    h: Heading,
-    files: usize,
-    place: usize,
-    opened: Opened,
-    rows: [[u64; 6]; 64],
-    out: &mut [u8],
-)
-    requires { (bundle_fault bytes.now ≡ 0) × (h ≡ bundle_heading bytes.now) × (files ≡ files_of bytes.now) × (place < h.jobs)
-        × (opening_in h.params.d h.params.t opened.fault rows ≡ place_opening bytes.now place)
-        × (opened.wrong ≡ wrong_of h.params.k h.params.d (shares_at bytes.now place) (place_opening bytes.now place))
-        × (out.old ≡ mended_to bytes.now place 0) }
-    ensures { out.new ≡ mended_to bytes.now (place + 1) 0 }
+fn mend_files(bundle: &Bundle, place: usize, wrong: u64, rows: [[u64; 6]; 64], out: &mut [u8])
+    requires { Bytes bundle.now.bytes.now × (place < bundle.now.heading.jobs)
+        × (opening_in bundle.now.heading.params.d bundle.now.heading.params.t 0 rows ≡ place_opening bundle.now.bytes.now place)
+        × (wrong ≡ wrong_of bundle.now.heading.params.k bundle.now.heading.params.d (shares_at bundle.now.bytes.now place)
+        (place_opening bundle.now.bytes.now place))
+        × (out.old ≡ mended_to bundle.now.bytes.now place 0) }
+    ensures { out.new ≡ mended_to bundle.now.bytes.now (place + 1) 0 }
 {
-    let mut f: usize = 0;
-    while f < files {
-        mend_file(bytes, h, f, place, opened, rows, out);
-        f += 1;
+    for f in 0..bundle.files {
+        mend_file(bundle, f, place, wrong, rows, out);
     }
 }
 
-// Mends the job at a place of an accepted bundle, those before it being mended, and gives the fault 5, 6 or 0 and the wrong holders.
-fn mend_place(bytes: &[u8], h: Heading, files: usize, place: usize, out: &mut [u8]) -> Opened
-    requires { (bundle_fault bytes.now ≡ 0) × (h ≡ bundle_heading bytes.now) × (files ≡ files_of bytes.now) × (place < h.jobs)
-        × (out.old ≡ mended_to bytes.now place 0) }
-    ensures fault { result.fault ≡ fault_of (place_opening bytes.now place) }
-    ensures wrong { result.wrong ≡ wrong_of h.params.k h.params.d (shares_at bytes.now place)
-        (place_opening bytes.now place) }
-    ensures out { out.new ≡ mended_to bytes.now (place + 1) 0 }
+// Mends the job at a place of a bundle, those before it being mended, and gives the wrong holders, or the refusal of a job that keeps its bytes.
+fn mend_place(bundle: &Bundle, place: usize, out: &mut [u8]) -> Result<u64, Refusal>
+    requires { Bytes bundle.now.bytes.now × (place < bundle.now.heading.jobs) × (out.old ≡ mended_to bundle.now.bytes.now place 0) }
+    ensures fault { fault_in result ≡ fault_of (place_opening bundle.now.bytes.now place) }
+    ensures wrong { wrong_in result
+        ≡ wrong_of bundle.now.heading.params.k bundle.now.heading.params.d (shares_at bundle.now.bytes.now place)
+        (place_opening bundle.now.bytes.now place) }
+    ensures out { out.new ≡ mended_to bundle.now.bytes.now (place + 1) 0 }
 {
-    let holders = archive::load_holders(bytes, h, files);
+    let holders = archive::load_holders(bundle);
     let mut shares = [[0u64; 6]; 63];
     let mut rows = [[0u64; 6]; 64];
-    let opened = archive::place_opening(bytes, h, files, place, &holders, &mut shares, &mut rows);
-    mend_files(bytes, h, files, place, opened, rows, out);
-    opened
+    let wrong = archive::place_opening(bundle, place, &holders, &mut shares, &mut rows)?;
+    mend_files(bundle, place, wrong, rows, out);
+    Ok(wrong)
 }
 
-// Mends the jobs of an accepted bundle in a copy of it.
-fn mend_jobs(bytes: &[u8], h: Heading, files: usize, out: &mut [u8])
-    requires { (bundle_fault bytes.now ≡ 0) × (h ≡ bundle_heading bytes.now) × (files ≡ files_of bytes.now)
-        × (out.old ≡ mended_to bytes.now 0 0) }
-    ensures { out.new ≡ mended bytes.now }
+// Mends the jobs of a bundle in a copy of it.
+fn mend_jobs(bundle: &Bundle, out: &mut [u8])
+    requires { Bytes bundle.now.bytes.now × (out.old ≡ mended_to bundle.now.bytes.now 0 0) }
+    ensures { out.new ≡ mended bundle.now.bytes.now }
 {
-    let mut p: usize = 0;
-    while p < h.jobs {
-        mend_place(bytes, h, files, p, out);
-        p += 1;
+    for place in 0..bundle.heading.jobs {
+        let _ = mend_place(bundle, place, out);
     }
 }
 
 // Writes a bundle mended, into an output of its length.
-pub fn mend(bytes: &[u8], out: &mut [u8]) -> u8
-    ensures { (result ≡ mend_fault bytes.now (length out.old))
+#[tactic(auto, using(words::proofs::Refusals::refusals), unfolding(crate::specs::Mended::mend_fault))]
+pub fn mend(bytes: &[u8], out: &mut [u8]) -> Result<(), Refusal>
+    ensures { (fault_in result ≡ mend_fault bytes.now (length out.old))
         × (out.new ≡ kept (mend_fault bytes.now (length out.old)) out.old (mended bytes.now)) }
 {
-    let accepted = bundle::accept(bytes);
-    if accepted.fault != 0 {
-        return accepted.fault;
-    }
-    if out.len() != bytes.len() {
-        return words::LENGTH;
-    }
-    writer::put_bytes(out, 0, bytes);
-    mend_jobs(bytes, accepted.heading, accepted.files, out);
-    0
+    let bundle = bundle::accept(bytes)?;
+    words::check_length(bytes.len(), out.len())?;
+    out.copy_from_slice(bytes);
+    mend_jobs(&bundle, out);
+    Ok(())
 }
 
 // Accepts an input of the program, and copies it to the output.
-pub fn start(bytes: &[u8], out: &mut [u8]) -> Accepted
+pub fn start<'a>(bytes: &'a [u8], out: &mut [u8]) -> Result<Bundle<'a>, Refusal>
     requires { length out.old ≡ length bytes.now }
-    ensures { (result ≡ accepted_input bytes.now) × (out.new ≡ output_at bytes.now 0) }
+    ensures { Accepts result (input_fault bytes.now) bytes.now × (out.new ≡ output_at bytes.now 0) }
 {
-    writer::put_bytes(out, 0, bytes);
+    out.copy_from_slice(bytes);
     listing::accept_input(bytes)
 }
 
-// Mends the job at a place of an accepted bundle, and writes its lines from the start of a lent text.
-fn put_place(
-    bytes: &[u8],
-    h: Heading,
-    files: usize,
-    place: usize,
-    out: &mut [u8],
-    text: &mut [u8],
-) -> usize
-    requires { (bundle_fault bytes.now ≡ 0) × (h ≡ bundle_heading bytes.now) × (files ≡ files_of bytes.now) × (place < h.jobs)
-        × (out.old ≡ mended_to bytes.now place 0) × (report_room ≤ length text.old) }
-    ensures out { out.new ≡ mended_to bytes.now (place + 1) 0 }
-    ensures text { (text.new ≡ written 0 (changes_at bytes.now place) text.old)
-        × (result ≡ length (changes_at bytes.now place)) × (result ≤ report_room) }
+// Mends the job at a place of a bundle, and writes its lines from the start of a lent text.
+fn put_place(bundle: &Bundle, place: usize, out: &mut [u8], text: &mut [u8]) -> usize
+    requires { Bytes bundle.now.bytes.now × (place < bundle.now.heading.jobs)
+        × (out.old ≡ mended_to bundle.now.bytes.now place 0) × (report_room ≤ length text.old) }
+    ensures out { out.new ≡ mended_to bundle.now.bytes.now (place + 1) 0 }
+    ensures text { (text.new ≡ written 0 (changes_at bundle.now.bytes.now place) text.old)
+        × (result ≡ length (changes_at bundle.now.bytes.now place)) × (result ≤ report_room) }
 {
-    let number = fetch::job_number(bytes, h, place);
-    let opened = mend_place(bytes, h, files, place, out);
-    if opened.fault != 0 {
-        return text::put_kept(text, 0, number, opened.fault);
+    let number = fetch::job_number(bundle, place);
+    match mend_place(bundle, place, out) {
+        Ok(wrong) => text::put_changes(text, 0, number, wrong),
+        Err(refusal) => text::put_kept(text, 0, number, refusal),
     }
-    text::put_changes(text, 0, number, opened.wrong)
 }
 
-// Writes piece i of an input's report from the start of a lent text, and gives its size. Of an accepted input it mends the place on the way.
+// Writes piece i of an input's report from the start of a lent text, and gives its size. Of an accepted input it mends the place on the way. The
+// input is there for the contract alone.
 pub fn put_piece(
     bytes: &[u8],
-    accepted: Accepted,
+    accepted: &Result<Bundle, Refusal>,
     i: usize,
     out: &mut [u8],
     text: &mut [u8],
 ) -> usize
-    requires { (accepted ≡ accepted_input bytes.now) × (i < report_pieces bytes.now) × (out.old ≡ output_at bytes.now i)
-        × (report_room ≤ length text.old) }
+    requires { Accepts accepted.now (input_fault bytes.now) bytes.now × (i < report_pieces bytes.now)
+        × (out.old ≡ output_at bytes.now i) × (report_room ≤ length text.old) }
     ensures out { out.new ≡ output_at bytes.now (i + 1) }
     ensures text { (text.new ≡ written 0 (report_piece bytes.now i) text.old)
         × (result ≡ length (report_piece bytes.now i)) × (result ≤ report_room) }
 {
-    if accepted.fault != 0 {
-        return text::put_refused(text, 0, accepted.fault);
+    match accepted {
+        Ok(bundle) => put_place(bundle, i, out, text),
+        Err(refusal) => text::put_refused(text, 0, *refusal),
     }
-    put_place(bytes, accepted.heading, accepted.files, i, out, text)
 }

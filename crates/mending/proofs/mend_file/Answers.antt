@@ -2,11 +2,13 @@
 use borrow.Author.Rules.{rules}
 use mathlib.Core.Path.{sym, ap, ◌∙◌}
 use mathlib.Core.List.{List}
-use Prim.Native.Nat.{ℕ, ◌+◌, ◌*◌, ◌≤◌}
+use Prim.Native.Nat.{ℕ, ◌+◌, ◌*◌, ◌≤◌, ◌<◌}
 use native.Mathlib.Omega.{arith}
 use lib.ListN.{length}
 use lib.Seq.{length-take-le}
-use Rattle.records.specs.Num.{Bytes}
+use Rattle.records.specs.declared.Heading.{Heading}
+use Rattle.bundle.specs.Bundle.{files_of}
+use Rattle.bundle.specs.declared.Bundle.{Bundle}
 use Rattle.records.specs.Layout.{word_size, job_len_of}
 use Rattle.fetch.proofs.Places.{job-asks, job-spot, job-fits}
 use Rattle.mending.proofs.Mended.{mended-length}
@@ -14,42 +16,48 @@ use Rattle.mending.proofs.Turns.{holder-few, value-asks, bit-clear, bit-set, tur
 use Rattle.mending.proofs.mend_file.Goals as goal
 use Rattle.mending.proofs.mend_file.Goals.{After-file_holder-holder, After-job_at, After-value_at-words, Start}
 
-abbrev bs : Start → List ℕ
-bs s = s.args.bytes.now
+abbrev bundle : Start → Bundle
+bundle s = s.args.bundle.now
 
-are-bytes : (c : After-file_holder-holder) → Bytes (bs (goal.at.After-file_holder-holder c).Start)
-are-bytes c i = (c.shared_slice_known-1.given i).fits
+abbrev bs : Start → List ℕ
+bs s = (bundle s).bytes.now
+
+abbrev h : Start → Heading
+h s = (bundle s).heading
+
+file-there : (s : Start) → s.args.f < files_of (bs s)
+file-there s = omega (arith, s.requires.1, (bundle s).counted)
 
 few : (c : After-file_holder-holder) → (1 ≤ c.file_holder-holder.result) × (c.file_holder-holder.result ≤ 63)
 few c =
     let s = (goal.at.After-file_holder-holder c).Start in
-    holder-few (bs s) s.requires.0 s.args.h s.requires.1 s.args.f c.file_holder-holder.result s.requires.2 c.file_holder-holder.ensures
+    holder-few (bs s) (bundle s).sound (h s) (bundle s).headed s.args.f c.file_holder-holder.result (file-there s) c.file_holder-holder.ensures
 
 -- the job's words are within the bytes
-within : (c : After-job_at) → c.job_at.result + 6 + 8 + 8 * c.args.h.params.d ≤ length (bs (goal.at.After-job_at c).Start)
+within : (c : After-job_at) → c.job_at.result + 6 + 8 + 8 * c.args.bundle.now.heading.params.d ≤ length (bs (goal.at.After-job_at c).Start)
 unfolding job_len_of word_size
 within c =
     let s = (goal.at.After-job_at c).Start in
     omega (
       arith,
-      job-fits (bs s) s.requires.0 s.args.h s.requires.1 s.args.f s.requires.2 s.args.place c.job_at.result s.requires.3
+      job-fits (bs s) (bundle s).sound (h s) (bundle s).headed s.args.f (file-there s) s.args.place c.job_at.result s.requires.2
           c.job_at.ensures,
     )
 
-room : (c : After-job_at) → c.job_at.result + 6 + 8 + 8 * c.args.h.params.d ≤ length c.args.out.now
+room : (c : After-job_at) → c.job_at.result + 6 + 8 + 8 * c.args.bundle.now.heading.params.d ≤ length c.args.out.now
 room c =
     let s = (goal.at.After-job_at c).Start in
-    let n = ap length s.requires.6 ∙ mended-length (bs s) s.requires.0 (are-bytes (goal.at.After-job_at c).After-file_holder-holder) s.args.place s.args.f in
+    let n = ap length s.requires.5 ∙ mended-length (bs s) (bundle s).sound s.requires.0 s.args.place s.args.f in
     omega (arith, n, within c)
 
 -- the value's array has them
 abbrev D : After-value_at-words → ℕ
-D c = c.args.h.params.d
+D c = c.args.bundle.now.heading.params.d
 
 long : (c : After-value_at-words) → D c ≤ length c.value_at-words.result
 long c =
     let s = (goal.at.After-value_at-words c).Start in
-    let a = value-asks (bs s) s.requires.0 s.args.h s.requires.1 in
+    let a = value-asks (bs s) (bundle s).sound (h s) (bundle s).headed in
     search rules
 
 pub names-requires : goal.names-requires
@@ -59,15 +67,15 @@ pub returns-then-not-names : goal.returns-then-not-names
 returns-then-not-names c =
     let o = (goal.at.returns-then-not-names c).After-file_holder-holder in
     let s = (goal.at.After-file_holder-holder o).Start in
-    s.requires.6
-    ∙ turn-left (bs s) s.requires.0 s.args.h s.requires.1 s.args.f o.file_holder-holder.result s.requires.2 o.file_holder-holder.ensures
-    (are-bytes o) s.args.place s.args.opened.wrong s.requires.5
+    s.requires.5
+    ∙ turn-left (bs s) (bundle s).sound (h s) (bundle s).headed s.args.f o.file_holder-holder.result (file-there s) o.file_holder-holder.ensures
+    s.requires.0 s.args.place s.args.wrong s.requires.4
     (bit-clear _ (sym c.names.ensures ∙ c.if-not-names.true))
 
 pub job_at-requires : goal.job_at-requires
 job_at-requires c =
     let s = (goal.at.job_at-requires c).Start in
-    job-asks (bs s) s.requires.0 s.args.h s.requires.1 s.args.f s.requires.2 s.args.place (omega (arith, s.requires.3))
+    job-asks (bs s) (bundle s).sound (h s) (bundle s).headed s.args.f (file-there s) s.args.place (omega (arith, s.requires.2))
 
 pub overflow_add-at : goal.overflow_add-at
 overflow_add-at c = omega (arith, within c, c.well_formed)
@@ -78,7 +86,7 @@ overflow_add-at-2 c = omega (arith, within c, c.well_formed)
 pub value_at-words-requires : goal.value_at-words-requires
 value_at-words-requires c =
     let s = (goal.at.value_at-words-requires c).Start in
-    value-asks (bs s) s.requires.0 s.args.h s.requires.1
+    value-asks (bs s) (bundle s).sound (h s) (bundle s).headed
 
 pub slice_bounds-words-end : goal.slice_bounds-words-end
 slice_bounds-words-end c = long (goal.at.slice_bounds-words-end c).After-value_at-words
@@ -98,9 +106,9 @@ returns c =
     let o = (goal.at.After-job_at a).After-file_holder-holder in
     let s = (goal.at.After-file_holder-holder o).Start in
     let v = c.value_at-words in
-    turn-put (bs s) s.requires.0 s.args.h s.requires.1 s.args.f o.file_holder-holder.result s.requires.2 o.file_holder-holder.ensures
-    (are-bytes o) s.args.place s.args.opened.wrong s.requires.5 s.requires.3 s.args.opened.fault s.args.rows s.requires.4
+    turn-put (bs s) (bundle s).sound (h s) (bundle s).headed s.args.f o.file_holder-holder.result (file-there s) o.file_holder-holder.ensures
+    s.requires.0 s.args.place s.args.wrong s.requires.4 s.requires.2 0 s.args.rows s.requires.3
     (bit-set _ (sym a.names.ensures ∙ a.if-not-names.false)) v.result a.job_at.result s.args.out.now c.put_words.new.out v.ensures
-    (job-spot (bs s) s.requires.0 s.args.h s.requires.1 s.args.f s.requires.2 s.args.place a.job_at.result s.requires.3
+    (job-spot (bs s) (bundle s).sound (h s) (bundle s).headed s.args.f (file-there s) s.args.place a.job_at.result s.requires.2
     a.job_at.ensures)
-    s.requires.6 c.put_words.ensures
+    s.requires.5 c.put_words.ensures

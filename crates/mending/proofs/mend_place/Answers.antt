@@ -1,28 +1,26 @@
--- `mend_place`: what the place opens to, and its job mended in each file. Assumes nothing.
+-- `mend_place`: what the place opens to, and its job mended in each file, or kept where it does not open. Assumes nothing.
 use borrow.Author.Rules.{rules}
-use mathlib.Core.List.{List}
-use Prim.Native.Nat.{ℕ}
-use Rattle.polynomial.specs.Rows.{Rows}
-use Rattle.codewords.proofs.Opening.{handed}
+use mathlib.Core.Path.{◌≡◌, refl, sym, ◌∙◌}
+use Prim.Native.Nat.{ℕ, zero, suc}
+use Rattle.words.specs.Refusal.{number_of}
+use Rattle.words.proofs.Refusals.{number-some}
+use Rattle.codewords.specs.Opening.{Opening, declines, opens, unless_fault}
 use Rattle.rounds.proofs.Rows.{zero-shaped}
-use Rattle.archive.specs.Archive.{shares_at, place_opening}
+use Rattle.mending.proofs.Mended.{mended-past}
 use Rattle.mending.proofs.mend_place.Goals as goal
-use Rattle.mending.proofs.mend_place.Goals.{After-place_opening-opened}
 
-abbrev bs : After-place_opening-opened → List ℕ
-bs c = c.args.bytes.now
+pub place_opening-requires : goal.place_opening-requires
+place_opening-requires c = (c.requires.1, c.load_holders-holders.ensures, search rules, zero-shaped)
 
-abbrev rows : After-place_opening-opened → Rows
-rows c = c.place_opening-opened.new.rows
+-- a fault that is no 0 declines
+behind : (c : ℕ) (o : Opening) → (c ≡ 0 → ⊥) → unless_fault c o ≡ declines c
+behind zero o n = absurd (n refl)
+behind (suc c) o n = refl
 
-pub place_opening-opened-requires : goal.place_opening-opened-requires
-place_opening-opened-requires c = (c.requires.0, c.requires.1, c.requires.2, c.requires.3, c.load_holders-holders.ensures, search rules, zero-shaped)
-
-pub returns : goal.returns
-returns c =
-    let a = (goal.at.returns c).After-place_opening-opened in
-    let p = a.args.h.params in
-    let o = a.place_opening-opened in
-    let g = handed p.k p.d p.t (shares_at (bs a) a.args.place) o.result.fault (rows a) o.result.wrong
-    (place_opening (bs a) a.args.place) o.ensures.shaped o.ensures.opening o.ensures.wrong in
-    record { fault = g.fault; wrong = o.ensures.wrong; out = c.mend_files.ensures }
+pub returns-in_err-wrong-clause-out : goal.returns-in_err-wrong-clause-out
+returns-in_err-wrong-clause-out c =
+    let b = c.args.bundle.now in
+    let r = c.in_err-wrong.field-0.0 in
+    c.requires.2
+    ∙ mended-past b.bytes.now b.sound c.requires.0 c.args.place (number_of r)
+    (sym c.in_err-wrong.ensures.opening ∙ behind (number_of r) _ (number-some r))
