@@ -5,12 +5,10 @@ use Rattle.words.specs.Refusal.{first, unless, kept, PARAMETERS}
 use Rattle.words.specs.declared.Params.{Params}
 use Rattle.codewords.specs.Opening.{Opening, declines, opens}
 use Rattle.bundle.specs.Bundle.{num_of, job_at, params_of, bundle_heading}
-use Rattle.bundle.specs.declared.Accepted.{Accepted}
 use Rattle.archive.specs.Archive.{place_opening}
 use Rattle.text.specs.Text.{refused_line, kept_line}
 use Rattle.labelled.specs.JobText.{text_of}
 use Rattle.listing.specs.Listing.{input_fault, unless_refused}
-use Rattle.listing.specs.Pieces.{accepted_by}
 
 -- the text of a job that opens, or a line with the number, `10 refused 6`
 abbrev pub export_by : Params → ℕ → Opening → List ℕ
@@ -35,10 +33,6 @@ export_fault bs = first (input_fault bs) (unless (eqb (params_of bs).d 4) PARAME
 unfoldable pub export_of : List ℕ → List ℕ
 unfolding exports_from export_fault
 export_of bs = unless_refused (export_fault bs) (exports_from bs 0 (bundle_heading bs).jobs)
-
--- what accepting an input gives, by that fault
-unfoldable pub accepted_export : List ℕ → Accepted
-accepted_export bs = accepted_by (export_fault bs) bs
 
 -- ---- in pieces: `refused N`, or the text of a place a piece
 

@@ -5,50 +5,58 @@ use mathlib.Core.List.{List}
 use Prim.Native.Nat.{ℕ}
 use native.Mathlib.Omega.{arith}
 use lib.ListN.{length}
+use Rattle.words.specs.Refusal.{number_of}
+use Rattle.words.proofs.Refusals.{number-some}
 use Rattle.records.specs.declared.Heading.{Heading}
+use Rattle.bundle.specs.declared.Bundle.{Bundle}
 use Rattle.decimal.specs.Decimal.{written}
 use Rattle.decimal.proofs.Written.{wrote-line}
 use Rattle.text.specs.Text.{refused_line}
-use Rattle.text.proofs.Lines.{refused-length}
-use Rattle.exporting.specs.Export.{export_fault, export_piece}
-use Rattle.exporting.proofs.Accepts.{export-fault, export-none, export-files, export-heading, export-four}
+use Rattle.text.proofs.Lines.{number-le, refused-length}
+use Rattle.listing.proofs.Input.{fault-refused, fault-accepted, heading-accepted}
+use Rattle.exporting.specs.Export.{export_at, export_fault, export_piece}
+use Rattle.exporting.proofs.Accepts.{export-four}
 use Rattle.exporting.proofs.Export.{piece-accepted, piece-refused, pieces-accepted}
 use Rattle.exporting.proofs.put_piece.Goals as goal
-use Rattle.exporting.proofs.put_piece.Goals.{After-put_place, Start}
+use Rattle.exporting.proofs.put_piece.Goals.{In-Ok, Start}
 
 abbrev bs : Start → List ℕ
 bs s = s.args.bytes.now
 
-fault : (s : Start) → export_fault (bs s) ≡ s.args.accepted.fault
-fault s = export-fault (bs s) s.args.accepted s.requires.0
+pub returns-in-Err : goal.returns-in-Err
+returns-in-Err c =
+    let s = (goal.at.returns-in-Err c).Start in
+    let r = c.in-Err.refusal in
+    let n = number_of r in
+    wrote-line s.args.out.now _ (export_piece (bs s) s.args.i) (refused_line n) c.put_refused.result
+    (piece-refused (bs s) s.args.i n (fault-refused (export_fault (bs s)) (bs s) s.args.accepted.now s.requires.0 r c.in-Err.is) (number-some r))
+    c.put_refused.ensures (omega (arith, refused-length n (omega (arith, number-le r))))
 
-pub returns-then-accepted-ne0 : goal.returns-then-accepted-ne0
-returns-then-accepted-ne0 c =
-    let s = (goal.at.returns-then-accepted-ne0 c).Start in
-    let f = s.args.accepted.fault in
-    let p = c.put_refused in
-    wrote-line s.args.out.now _ (export_piece (bs s) s.args.i) (refused_line f) p.result
-    (piece-refused (bs s) s.args.i f (fault s) c.if-accepted-ne0.true)
-    p.ensures (omega (arith, refused-length f (omega arith)))
+-- an input that is accepted
+abbrev bundle : In-Ok → Bundle
+bundle c = c.in-Ok.bundle
+
+clear : (c : In-Ok) → export_fault (bs (goal.at.In-Ok c).Start) ≡ 0
+clear c =
+    let s = (goal.at.In-Ok c).Start in
+    fault-accepted (export_fault (bs s)) (bs s) s.args.accepted.now s.requires.0 (bundle c) c.in-Ok.is
 
 pub put_place-requires : goal.put_place-requires
 put_place-requires c =
-    let s = (goal.at.put_place-requires c).Start in
-    let a = s.args.accepted in
-    let z = c.if-accepted-ne0.false in
-    let h = export-heading (bs s) a s.requires.0 z in (
-      export-none (bs s) a s.requires.0 z,
-      h,
-      export-four (bs s) a s.requires.0 z,
-      export-files (bs s) a s.requires.0 z,
-      omega (arith, s.requires.1, pieces-accepted (bs s) (fault s ∙ z), ap (λ (h : Heading). h.jobs) h),
+    let a = (goal.at.put_place-requires c).In-Ok in
+    let s = (goal.at.In-Ok a).Start in
+    let h = heading-accepted (export_fault (bs s)) (bs s) s.args.accepted.now s.requires.0 (bundle a) a.in-Ok.is in (
+      export-four (bs s) s.args.accepted.now s.requires.0 (bundle a) a.in-Ok.is,
+      omega (arith, s.requires.1, pieces-accepted (bs s) (clear a), ap (λ (h : Heading). h.jobs) h),
       s.requires.2,
     )
 
-pub returns : goal.returns
-returns c =
-    let p = (goal.at.returns c).After-put_place in
-    let s = (goal.at.After-put_place p).Start in
-    let e = sym (piece-accepted (bs s) s.args.i (fault s ∙ p.if-accepted-ne0.false)) in
-    let r = p.put_place.ensures in
-    (r.0 ∙ ap (λ (t : List ℕ). written 0 t s.args.out.now) e, r.1 ∙ ap length e, r.2)
+pub returns-in-Ok : goal.returns-in-Ok
+returns-in-Ok c =
+    let a = (goal.at.returns-in-Ok c).In-Ok in
+    let s = (goal.at.In-Ok a).Start in
+    let i = s.args.i in
+    let t : export_at (bundle a).bytes.now i ≡ export_piece (bs s) i =
+    ap (λ bs. export_at bs i) (s.requires.0.1 (bundle a) a.in-Ok.is) ∙ sym (piece-accepted (bs s) i (clear a)) in
+    let r = c.put_place.ensures in
+    (r.0 ∙ ap (λ (t : List ℕ). written 0 t s.args.out.now) t, r.1 ∙ ap length t, r.2)
