@@ -58,13 +58,10 @@ fn share_at(d: usize, secret: &[u64], coefficients: &[u64], t: usize, x: u64) ->
     requires { ((2 ≤ d) × (d ≤ 6)) × (t ≤ 63) × (length secret.now ≡ d) × (length coefficients.now ≡ t * d) }
     ensures { result ≡ held d (value 64 d (secret.now ∷ elements_of d t coefficients.now) (point d x)) }
 {
-    match d {
-        2 => share_by(2, secret, coefficients, t, x),
-        3 => share_by(3, secret, coefficients, t, x),
-        4 => share_of_four(secret, coefficients, t, x),
-        5 => share_by(5, secret, coefficients, t, x),
-        _ => share_by(6, secret, coefficients, t, x),
+    if d == 4 {
+        return share_of_four(secret, coefficients, t, x);
     }
+    words::specialized!(d, share_by(d, secret, coefficients, t, x))
 }
 
 // The shares of holders 1 to n: words of 64 bits, reduced once at the end.

@@ -23,9 +23,6 @@ range l h = l.requires.5 l.loop-i.i h
 pub overflow_sub-j : goal.overflow_sub-j
 overflow_sub-j c = (range (goal.at.overflow_sub-j c).At-loop-i (omega arith)).0
 
-pub overflow_shr-j : goal.overflow_shr-j
-overflow_shr-j c = omega (arith, (range (goal.at.overflow_shr-j c).At-loop-i (omega arith)).1)
-
 pub loop-i-preserved : goal.loop-i-preserved
 loop-i-preserved c =
     let a = c.args in

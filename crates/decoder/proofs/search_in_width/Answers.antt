@@ -56,6 +56,3 @@ search_without-requires c =
     let o = wide-left-out a.d p.1.0 p.1.1 a.k a.t a.e (whole s) p.5 (enough s) w.result w.ensures p.7
     (leb-true (ones w.result) a.e n.in_ok-unless.ensures.ok) in
     (p.0, p.1, p.2, p.3, p.5, p.6, o, p.8, p.9, p.10)
-
-pub returns : goal.returns
-returns c = c.search_without.ensures

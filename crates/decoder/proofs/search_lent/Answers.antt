@@ -25,11 +25,6 @@ whole s = let a = s.args in shares_of a.d a.m a.hs.now a.ys.now
 first : (s : Start) → let a = s.args in take (suc a.t) (whole s) ≡ shares_of a.d (suc a.t) a.hs.now a.ys.now
 first s = let a = s.args in take-of a.d a.hs.now a.ys.now (suc a.t) a.m (omega (arith, s.requires.4))
 
-pub round-requires : goal.round-requires
-round-requires c =
-    let p = c.requires in
-    (p.0, p.1, p.2, p.3, p.4, p.5, p.7, p.10)
-
 abbrev rows : After-round → Rows
 rows c = c.round.new.rows
 

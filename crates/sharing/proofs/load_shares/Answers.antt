@@ -2,7 +2,6 @@
 use native.Mathlib.Omega.{arith}
 use mathlib.Core.Path.{◌≡◌, refl, sym, ap, ◌∙◌}
 use mathlib.Core.List.{[], map}
-use native.Mathlib.Nat.{mul-le-mul_right}
 use lib.ListN.{length, take, replicate, length-set}
 use lib.Seq.{paste-zero}
 use Rattle.words.proofs.Fill.{fill-next}
@@ -13,9 +12,6 @@ use Rattle.sharing.proofs.load_shares.Goals.{At-loop-i}
 
 pub loop-i-init : goal.loop-i-init
 loop-i-init c = (refl, paste-zero (replicate 63 (replicate 6 0)) 0 (rows_of c.args.d c.args.m c.args.shares.now))
-
-pub load-requires : goal.load-requires
-load-requires c = ((omega arith, omega arith), omega (arith, mul-le-mul_right c.args.d c.loop-i-test.true))
 
 pub loop-i-preserved : goal.loop-i-preserved
 loop-i-preserved c =
