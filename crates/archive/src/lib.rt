@@ -143,7 +143,10 @@ fn run_opening(
     ensures shaped { Shaped rows.new }
 {
     let seen = load_run(bundle, a, b, shares);
-    words::unless(words::in_width(bundle.heading.params.k, seen), Refusal::WideWord)?;
+    words::unless(
+        words::in_width(bundle.heading.params.k, seen),
+        Refusal::WideWord,
+    )?;
     decode_files(bundle, true, holders, shares, rows)
 }
 

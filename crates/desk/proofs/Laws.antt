@@ -12,7 +12,7 @@ use Rattle.words.specs.Faults.{length_fault}
 use Rattle.words.specs.Refusal.{number_of, first, kept, PARAMETERS, LENGTH, DESK_CLOSED}
 use Rattle.words.specs.declared.Refusal.{Refusal}
 use Rattle.words.proofs.Faults.{clear-length}
-use Rattle.words.proofs.Refusals.{first-right, first-none, first_some, kept-none, kept-some, unless-held, unless-yes, unless-no, stop, number-some}
+use Rattle.words.proofs.Refusals.{first-none, first_some, unless-held, unless-yes, unless-no, stop, number-some}
 use Rattle.codewords.specs.Opening.{Opening, declines, opens, fault_of, unless_fault, JobState}
 use Rattle.codewords.proofs.Opening.{unless-none, unless-some}
 use Rattle.bundle.specs.Bundle.{bundle_heading}

@@ -34,6 +34,7 @@ struct Seen {
 // Adds the d words of 8 bytes each from a position to the first d of the lent words, in 64 bits; the words read, together. For all that the compiler
 // knows the two lists could overlap, and it may not read past a store: so two words are read before either is stored, and seen apart, which lets it
 // add the two by one instruction. The last of an odd number is seen with both, so that neither is taken out of the pair for it.
+// It counts by hand: a `for` over pairs would have the same two places in each turn, and the last word apart as well.
 fn add_words(bytes: &[u8], at: usize, d: usize, running: &mut [u64]) -> Seen
     requires { (at + 8 * d ≤ length bytes.now) × (d ≤ length running.old) }
     ensures { ((k : ℕ) → in_width k (bit_or result.even result.odd) ≡ all_in_width k (words_from 8 bytes.now d at))
@@ -167,13 +168,7 @@ struct Located<'a> {
 
 // The file of a holder, in a bundle that has the places a to b - 1.
 #[tactic(auto, using(words::proofs::Refusals::refusals), unfolding(crate::specs::Total::asked_fault))]
-fn locate(
-    bytes: &[u8],
-    holder: usize,
-    a: usize,
-    b: usize,
-    out: usize,
-) -> Result<Located, Refusal>
+fn locate(bytes: &[u8], holder: usize, a: usize, b: usize, out: usize) -> Result<Located, Refusal>
     ensures fault { fault_in result ≡ asked_fault bytes.now holder a b out }
     ensures found { IfOk result (λ l. (l.bundle.bytes.now ≡ bytes.now) × (l.file ≡ file_of bytes.now holder)
         × (l.file < l.bundle.files) × (out ≡ l.bundle.heading.params.d) × (a ≤ b) × (b ≤ l.bundle.heading.jobs)) }

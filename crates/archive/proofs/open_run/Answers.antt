@@ -2,17 +2,14 @@
 use borrow.Author.Rules.{rules}
 use mathlib.Core.List.{List}
 use Prim.Native.Nat.{ℕ, ◌-◌}
-use lib.ListN.{length}
 use Rattle.words.specs.Refusal.{fault_in}
 use Rattle.polynomial.specs.Rows.{Rows}
 use Rattle.codewords.specs.Codeword.{Share}
-use Rattle.codewords.specs.Opening.{Opening, wrong_into, lowest_into}
+use Rattle.codewords.specs.Opening.{Opening}
 use Rattle.codewords.proofs.Opening.{Handed, handed}
 use Rattle.decoder.specs.Decoded.{wrong_in}
 use Rattle.rounds.proofs.Rows.{zero-shaped}
-use Rattle.records.specs.declared.Heading.{Heading}
-use Rattle.bundle.specs.Bundle.{bundle_heading}
-use Rattle.archive.specs.Archive.{shares_over, run_opening, open_run}
+use Rattle.archive.specs.Archive.{shares_over, run_opening}
 use Rattle.archive.proofs.Loaded.{arrays, askable, if_ok}
 use Rattle.archive.proofs.open_run.Goals as goal
 use Rattle.archive.proofs.open_run.Goals.{After-run_opening-opened}
