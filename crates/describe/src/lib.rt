@@ -85,12 +85,7 @@ fn read_words(cursor: usize, read: Option<RawRecord>) -> [u64; 4]
     ensures { result ≡ step_by cursor (Ok read) }
 {
     match read {
-        Some(record) => [
-            RECORD,
-            record.kind,
-            record.start as u64,
-            record.len as u64,
-        ],
+        Some(record) => [RECORD, record.kind, record.start as u64, record.len as u64],
         None => [END, 0, cursor as u64, 0],
     }
 }
