@@ -26,27 +26,23 @@ pub struct Bundle<'a> {
 }
 
 // Whether parameters and a count of jobs are in their ranges.
+#[tactic(auto, unfolding(crate::specs::Bundle::ranges_ok))]
 pub fn ranges_ok(h: Heading) -> bool
     ensures { result ≡ ranges_ok h }
 {
-    let p = h.params;
-    if !words::params_ok(p) {
-        return false;
-    }
-    h.jobs <= MOST_JOBS
+    words::params_ok(h.params) && h.jobs <= MOST_JOBS
 }
 
 // Whether a holder may follow the holder prev, or 0 for none.
+#[tactic(auto, unfolding(crate::specs::Bundle::holder_ok))]
 pub fn holder_ok(prev: usize, h: Heading) -> bool
     ensures { result ≡ holder_ok prev h }
 {
-    if h.holder <= prev {
-        return false;
-    }
-    h.holder <= h.params.n
+    prev < h.holder && h.holder <= h.params.n
 }
 
 // Whether files with these headings belong together.
+#[tactic(auto, unfolding(crate::specs::Bundle::belongs, crate::specs::Bundle::same_params))]
 fn belong(a: Heading, b: Heading) -> bool
     ensures { result ≡ belongs a b }
 {
@@ -76,10 +72,7 @@ fn check_heading(bytes: &[u8], base: usize, prev: usize, at: usize) -> Result<He
 fn rises(p: usize, prev: u64, num: u64) -> bool
     ensures { result ≡ (eqb p 0 || ltb prev num) }
 {
-    if p == 0 {
-        return true;
-    }
-    prev < num
+    p == 0 || prev < num
 }
 
 // Tests the job record at a position, where the first file has this place's at base, and gives its number.
