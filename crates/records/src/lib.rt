@@ -128,19 +128,16 @@ fn known_job_length(len: usize) -> bool
 }
 
 // A kind, and a length that it has with some parameters.
+#[tactic(auto, unfolding(crate::specs::Layout::known))]
 fn known_length(kind: u64, len: usize) -> bool
     ensures { result ≡ known kind len }
 {
-    if kind == HEADING_KIND {
-        return len == HEADING_LENGTH;
+    match kind {
+        HEADING_KIND => len == HEADING_LENGTH,
+        JOB_KIND => known_job_length(len),
+        ORDER_KIND => len == ORDER_LENGTH,
+        _ => false,
     }
-    if kind == JOB_KIND {
-        return known_job_length(len);
-    }
-    if kind == ORDER_KIND {
-        return len == ORDER_LENGTH;
-    }
-    false
 }
 
 impl Cursor {
@@ -176,6 +173,7 @@ impl Cursor {
 }
 
 // Whether a whole record of one known kind and length stands at a position.
+#[tactic(auto, unfolding(crate::specs::Record::framed, crate::specs::Layout::record_size, crate::specs::Record::len_at, crate::specs::Record::kind_at))]
 pub fn is_record(bytes: &[u8], at: usize, kind: u64, len: usize) -> bool
     requires { known kind len ≡ true }
     ensures { result ≡ framed bytes.now kind len at }
@@ -194,6 +192,7 @@ pub fn is_record(bytes: &[u8], at: usize, kind: u64, len: usize) -> bool
 }
 
 // The heading whose record is at a position.
+#[tactic(auto, unfolding(crate::specs::Record::heading_of, crate::specs::Layout::record_size, crate::specs::Layout::head_len))]
 pub fn heading_at(bytes: &[u8], at: usize) -> Heading
     requires { at + head_size (heading_of bytes.now at) ≤ length bytes.now }
     ensures { result ≡ heading_of bytes.now at }
@@ -214,6 +213,7 @@ pub fn heading_at(bytes: &[u8], at: usize) -> Heading
 }
 
 // The bytes of a heading's record.
+#[tactic(auto, unfolding(crate::specs::Layout::record_size, crate::specs::Layout::head_len))]
 pub fn head_size(h: Heading) -> usize
     ensures { result ≡ head_size h }
 {
@@ -221,6 +221,7 @@ pub fn head_size(h: Heading) -> usize
 }
 
 // The bytes of a word in a job record.
+#[tactic(auto, unfolding(crate::specs::Layout::word_size))]
 fn word_size(h: Heading) -> usize
     ensures { result ≡ word_size h }
 {
@@ -228,6 +229,7 @@ fn word_size(h: Heading) -> usize
 }
 
 // The length of a job record.
+#[tactic(auto, unfolding(crate::specs::Layout::job_len_of, crate::specs::Layout::word_size))]
 pub fn job_length(h: Heading) -> usize
     requires { h.params.d ≤ 6 }
     ensures { result ≡ job_len h }
@@ -237,6 +239,7 @@ pub fn job_length(h: Heading) -> usize
 }
 
 // The bytes of a file.
+#[tactic(auto, unfolding(crate::specs::Layout::file_size, crate::specs::Layout::record_size, crate::specs::Layout::job_len_of, crate::specs::Layout::word_size))]
 pub fn file_size(h: Heading) -> usize
     requires { (h.params.d ≤ 6) × (h.jobs ≤ 1000) }
     ensures { result ≡ file_size h }
