@@ -77,6 +77,7 @@ fn body_start(bundle: &Bundle, holder: usize, place: usize) -> Result<usize, Ref
 }
 
 // The bytes of a job's body.
+#[tactic(auto, unfolding(records::specs::Layout::body_size, records::specs::Layout::job_len_of))]
 fn body_size(h: Heading) -> usize
     requires { h.params.d ≤ 6 }
     ensures { result ≡ body_size (job_len h) }

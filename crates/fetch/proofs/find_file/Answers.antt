@@ -52,9 +52,10 @@ found c =
 
 pub returns-then-h-holder : goal.returns-then-h-holder
 returns-then-h-holder c =
+    let t = (goal.at.returns-then-h-holder c).Then-h-holder in
     record {
-      fault = sym (holder-none c.args.bundle.now.bytes.now c.args.holder (omega (arith, found c, low (goal.at.Then-h-holder c).In-loop-f)));
-      file = (found c, c.loop-f-test.true);
+      fault = sym (holder-none c.args.bundle.now.bytes.now c.args.holder (omega (arith, found t, low (goal.at.Then-h-holder t).In-loop-f)));
+      file = (found t, c.loop-f-test.true);
     }
 
 pub overflow_add-at : goal.overflow_add-at
