@@ -7,9 +7,10 @@
 
 ghost use Rattle.std.specs.Prelude.{◌≤◌, ◌<◌, length};
 
-use records::{Cursor, Read};
+use records::Cursor;
 use std::io;
 use std::io::Write;
+use words::Refusal;
 
 const ROOM: usize = 512;
 
@@ -18,10 +19,9 @@ fn print<W: Write>(out: &mut W, c: u8) -> io::Result<()> {
     out.write_all(&text)
 }
 
-// One digit: the fault, or 0.
-fn digit(bytes: &[u8]) -> u8 {
-    let accepted = bundle::accept(bytes);
-    b'0' + accepted.fault % 10
+// One digit: the number of a refusal, or 0.
+fn digit(outcome: Result<(), Refusal>) -> u8 {
+    b'0' + words::fault_number(outcome) % 10
 }
 
 // The value of a hexadecimal digit.
@@ -76,7 +76,7 @@ fn decode(text: &[u8], from: usize, end: usize) -> Case
 // The numbers of all beginnings.
 fn beginnings<W: Write>(out: &mut W, bytes: &[u8]) -> io::Result<()> {
     for n in 0..bytes.len() {
-        print(out, digit(&bytes[..n]))?;
+        print(out, digit(bundle::check_bundle(&bytes[..n])))?;
     }
     print(out, b'\n')
 }
@@ -84,7 +84,7 @@ fn beginnings<W: Write>(out: &mut W, bytes: &[u8]) -> io::Result<()> {
 // The number of the first n bytes.
 fn cut(bytes: &[u8], n: usize) -> u8 {
     if n <= bytes.len() {
-        digit(&bytes[..n])
+        digit(bundle::check_bundle(&bytes[..n]))
     } else {
         b'?'
     }
@@ -109,27 +109,25 @@ fn changes<W: Write>(out: &mut W, bytes: [u8; 512], n: usize, v: u8) -> io::Resu
     print(out, b'\n')
 }
 
-// What a cursor reads from a position on: a letter for each record, and one for the end.
+// What a cursor reads from the start on: a letter for each record, and one for the end.
 fn trace<W: Write>(out: &mut W, bytes: &[u8]) -> io::Result<()> {
-    let mut at: usize = 0;
-    while at < bytes.len() {
-        let cursor = Cursor { at };
-        let got = cursor.read(bytes);
-        let Read::Record {
-            kind,
-            start: _,
-            len: _,
-            next,
-        } = got
-        else {
-            print(out, b'x')?;
-            return print(out, b'\n');
-        };
-        print(out, letter(kind))?;
-        at = next.at;
+    let mut cursor = Cursor { at: 0 };
+    loop {
+        match cursor.read(bytes) {
+            Ok(Some(record)) => {
+                print(out, letter(record.kind))?;
+                cursor = record.next;
+            }
+            Ok(None) => {
+                print(out, b'e')?;
+                return print(out, b'\n');
+            }
+            Err(_) => {
+                print(out, b'x')?;
+                return print(out, b'\n');
+            }
+        }
     }
-    print(out, b'e')?;
-    print(out, b'\n')
 }
 
 fn letter(kind: u64) -> u8 {
@@ -153,11 +151,11 @@ fn all_changes<W: Write>(out: &mut W, bytes: [u8; 512], n: usize) -> io::Result<
 fn answer<W: Write>(out: &mut W, kind: u8, bytes: &[u8]) -> io::Result<()> {
     match kind {
         b'c' => {
-            print(out, digit(bytes))?;
+            print(out, digit(bundle::check_bundle(bytes)))?;
             print(out, b'\n')
         }
         b'f' => {
-            print(out, b'0' + bundle::check_file(bytes) % 10)?;
+            print(out, digit(bundle::check_file(bytes)))?;
             print(out, b'\n')
         }
         b'r' => trace(out, bytes),

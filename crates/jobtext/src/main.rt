@@ -13,16 +13,16 @@ ghost use Rattle.streams.specs.Moved.{AppendsStart};
 use std::io;
 use std::io::Write;
 
-// Prints the text of an input, a piece at a time.
+// Prints the text of an input, a piece at a time. The loop stands in `mend` as well: a proof loses what a closure that writes a piece has changed.
 fn print<W: Write>(to: &mut W, bytes: &[u8]) -> io::Result<()>
     ensures start { AppendsStart (W.contents to.old) (W.contents to.new) (export_of bytes.now) }
     ensures all { OnOk result (Appends (W.contents to.old) (W.contents to.new) (export_of bytes.now)) }
 {
     let mut text = [0u8; text::REPORT];
     let accepted = exporting::accept(bytes);
-    let pieces = listing::count_pieces(accepted);
+    let pieces = listing::count_pieces(&accepted);
     for i in 0..pieces {
-        let size = exporting::put_piece(bytes, accepted, i, &mut text);
+        let size = exporting::put_piece(bytes, &accepted, i, &mut text);
         streams::write_text(to, &text[..size])?;
     }
     Ok(())

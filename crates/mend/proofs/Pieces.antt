@@ -1,20 +1,27 @@
 -- How many pieces the report of an input has, by what accepting it gave. And what stands on the output before each piece of it: the pieces before
 -- that one; at the end all of them, which are the report. Assumes nothing.
-use Rattle.std.proofs.Common.{◌≡◌, ℕ, ◌+◌, ◌<◌, List, Option, refl, ap, ◌∙◌, subst, le_of_lt}
+use Rattle.std.proofs.Common.{◌≡◌, ℕ, ◌+◌, ◌<◌, List, Option, Result, Ok, Err, true, refl, sym, ap, ◌∙◌, subst, le_of_lt}
+use Rattle.std.specs.Result.{MatchResult, is_ok}
 use Rattle.std.specs.Io.KnownBytes.{Appends}
 use Rattle.streams.specs.Moved.{AppendsStart}
 use Rattle.streams.proofs.Pieces.{printed-none, printed-next, printed-start}
 use Rattle.mending.specs.Report.{report_of, report_piece, report_pieces, pieces_from}
 use Rattle.mending.proofs.Report.{report-whole, report-begin}
-use Rattle.words.specs.Refusal.{kept}
-use Rattle.bundle.specs.declared.Accepted.{Accepted}
+use Rattle.words.specs.declared.Refusal.{Refusal}
+use Rattle.bundle.specs.declared.Bundle.{Bundle}
 use Rattle.listing.specs.Listing.{input_fault}
-use Rattle.listing.specs.Pieces.{accepted_input}
+use Rattle.listing.specs.Pieces.{Accepts}
 use Rattle.listing.proofs.Input.{count_by}
 
-pub pieces-count : (bs : List ℕ) (a : Accepted) → a ≡ accepted_input bs → kept a.fault 1 a.heading.jobs ≡ report_pieces bs
-unfolding accepted_input report_pieces
-pieces-count bs a e = rw e (count_by bs (input_fault bs))
+module _ (bs : List ℕ) (r : Result Bundle Refusal) (a : Accepts r (input_fault bs) bs) where
+  pub pieces-count : (n : ℕ) → MatchResult r (λ b. n ≡ b.heading.jobs) (λ _. n ≡ 1) → n ≡ report_pieces bs
+  unfolding report_pieces
+  pieces-count n m = count_by (input_fault bs) bs r a n m
+
+-- an input that is accepted has no fault
+pub accepted-clear : (r : Result Bundle Refusal) (bs : List ℕ) → Accepts r (input_fault bs) bs → is_ok r ≡ true → input_fault bs ≡ 0
+accepted-clear (Ok b) bs a t = sym a.0
+accepted-clear (Err e) bs a t = cc
 
 pub reported-none : (bs : List ℕ) (a : Option (List ℕ)) → Appends a a (pieces_from bs 0 0)
 unfolding pieces_from

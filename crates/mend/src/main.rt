@@ -8,17 +8,19 @@
 
 ghost use Rattle.std.specs.Prelude.{◌≡◌, OnOk, length};
 ghost use Rattle.std.specs.Io.KnownBytes.{Appends};
-ghost use Rattle.listing.specs.Pieces.{accepted_input};
+ghost use Rattle.listing.specs.Listing.{input_fault};
+ghost use Rattle.listing.specs.Pieces.{Accepts};
 ghost use Rattle.mending.specs.Mended.{mended};
 ghost use Rattle.mending.specs.Progress.{output_at};
 ghost use Rattle.mending.specs.Report.{report_of, report_pieces};
 ghost use Rattle.streams.specs.Moved.{AppendsStart};
 
-use bundle::Accepted;
+use bundle::Bundle;
 use std::env::{Env, FillError};
 use std::fs::{File, OpenOptions};
 use std::io::{Error, ErrorKind, Write};
 use std::{fs, io, str};
+use words::Refusal;
 
 // How long a name may be, and one byte more, as in the C library.
 const NAME: usize = 4096;
@@ -27,8 +29,14 @@ const NAME: usize = 4096;
 const TOO_LONG: i32 = 36;
 
 // Prints the report of an input, a piece at a time, mends it in the output on the way, and says whether writing went well.
-fn print<W: Write>(to: &mut W, bytes: &[u8], accepted: Accepted, out: &mut [u8]) -> io::Result<()>
-    requires { (accepted ≡ accepted_input bytes.now) × (out.old ≡ output_at bytes.now 0) }
+// The loop stands in `jobtext` as well: a proof loses what a closure that writes a piece has changed, so no function takes one.
+fn print<W: Write>(
+    to: &mut W,
+    bytes: &[u8],
+    accepted: &Result<Bundle, Refusal>,
+    out: &mut [u8],
+) -> io::Result<()>
+    requires { Accepts accepted.now (input_fault bytes.now) bytes.now × (out.old ≡ output_at bytes.now 0) }
     ensures mended { OnOk result (out.new ≡ output_at bytes.now (report_pieces bytes.now)) }
     ensures start { AppendsStart (W.contents to.old) (W.contents to.new) (report_of bytes.now) }
     ensures all { OnOk result (Appends (W.contents to.old) (W.contents to.new) (report_of bytes.now)) }
@@ -99,12 +107,10 @@ fn mend(rt: &HostRuntime, bytes: &[u8], out: &mut [u8])
     requires { length out.old ≡ length bytes.now }
 {
     let accepted = mending::start(bytes, out);
-    match print(&mut rt.stdout(), bytes, accepted, out) {
+    match print(&mut rt.stdout(), bytes, &accepted, out) {
         Ok(()) => {
-            if accepted.fault == 0 {
-                if has_argument(rt, 1) {
-                    save(rt, bytes, out);
-                }
+            if accepted.is_ok() && has_argument(rt, 1) {
+                save(rt, bytes, out);
             }
         }
         Err(error) => {

@@ -9,6 +9,7 @@ ghost use Rattle.std.specs.Io.KnownBytes.{Appends};
 ghost use Rattle.listing.specs.Listing.{listing_of};
 ghost use Rattle.streams.specs.Moved.{AppendsStart};
 
+use listing::Printer;
 use std::io;
 use std::io::Write;
 
@@ -18,16 +19,11 @@ fn print<W: Write>(to: &mut W, bytes: &[u8]) -> io::Result<()>
     ensures all { OnOk result (Appends (W.contents to.old) (W.contents to.new) (listing_of bytes.now)) }
 {
     let mut line = [0u8; text::LINE];
-    let mut printer = listing::start(bytes);
-    loop {
-        let piece = listing::next(printer, bytes, &mut line);
-        let size = piece.size;
-        if size == 0 {
-            return Ok(());
-        }
+    let mut printer = Printer::start(bytes);
+    while let Some(size) = printer.next(&mut line) {
         streams::write_text(to, &line[..size])?;
-        printer = piece.printer;
     }
+    Ok(())
 }
 
 // One byte more than an input may have tells one that is too long.

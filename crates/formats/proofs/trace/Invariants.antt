@@ -2,8 +2,8 @@
 use Rattle.std.proofs.Common.{length, ◌-◌, ◌≤◌}
 use Rattle.formats.proofs.trace.Given as goal
 
-abbrev pub invariant-loop-at : goal.invariant-loop-at
-invariant-loop-at g l = l.at ≤ length l.bytes
+abbrev pub invariant-loop-record : goal.invariant-loop-record
+invariant-loop-record g l = l.cursor.at ≤ length l.bytes
 
-abbrev pub decreases-loop-at : goal.decreases-loop-at
-decreases-loop-at g l = length l.bytes - l.at
+abbrev pub decreases-loop-record : goal.decreases-loop-record
+decreases-loop-record g l = length l.bytes - l.cursor.at

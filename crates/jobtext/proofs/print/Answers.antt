@@ -4,8 +4,7 @@ use Rattle.decimal.proofs.Written.{take-written}
 use Rattle.streams.specs.Moved.{AppendsStart}
 use Rattle.streams.proofs.Moved.{start-whole}
 use Rattle.exporting.specs.Export.{export_of, export_piece, export_pieces}
-use Rattle.exporting.proofs.Accepts.{pieces-count}
-use Rattle.jobtext.proofs.Pieces.{exported-none, exported-next, exported-start, exported-all}
+use Rattle.jobtext.proofs.Pieces.{pieces-count, exported-none, exported-next, exported-start, exported-all}
 use Rattle.jobtext.proofs.print.Goals as goal
 
 pub loop-i-init : goal.loop-i-init
@@ -14,13 +13,13 @@ loop-i-init g c = exported-none c.args.bytes.now _
 pub put_piece-size-requires : goal.put_piece-size-requires
 put_piece-size-requires g c =
     let bs = c.args.bytes.now in
-    let n : c.count_pieces-pieces.result ≡ export_pieces bs = c.count_pieces-pieces.ensures ∙ pieces-count bs c.accept-accepted.result c.accept-accepted.ensures in
+    let n : c.count_pieces-pieces.result ≡ export_pieces bs = pieces-count bs c.accept-accepted.result c.accept-accepted.ensures c.count_pieces-pieces.result c.count_pieces-pieces.ensures in
     (c.accept-accepted.ensures, omega (arith, n), search rules)
 
 pub returns-in_err-write_text-clause-start : goal.returns-in_err-write_text-clause-start
 returns-in_err-write_text-clause-start g c =
     let bs = c.args.bytes.now in
-    let n : c.count_pieces-pieces.result ≡ export_pieces bs = c.count_pieces-pieces.ensures ∙ pieces-count bs c.accept-accepted.result c.accept-accepted.ensures in
+    let n : c.count_pieces-pieces.result ≡ export_pieces bs = pieces-count bs c.accept-accepted.result c.accept-accepted.ensures c.count_pieces-pieces.result c.count_pieces-pieces.ensures in
     let h : c.loop-i.i < export_pieces bs = omega (arith, n) in
     let p = c.put_piece-size in
     let e : take p.result p.new.out ≡ export_piece bs c.loop-i.i =
@@ -38,13 +37,13 @@ loop-i-preserved g c =
 pub returns-clause-start : goal.returns-clause-start
 returns-clause-start g c =
     let bs = c.args.bytes.now in
-    let n : c.count_pieces-pieces.result ≡ export_pieces bs = c.count_pieces-pieces.ensures ∙ pieces-count bs c.accept-accepted.result c.accept-accepted.ensures in
+    let n : c.count_pieces-pieces.result ≡ export_pieces bs = pieces-count bs c.accept-accepted.result c.accept-accepted.ensures c.count_pieces-pieces.result c.count_pieces-pieces.ensures in
     let h : c.loop-i.i ≡ export_pieces bs = omega (arith, n) in
     start-whole _ _ (export_of bs) (exported-all bs _ _ c.loop-i.i c.loop-i.invariant h)
 
 pub returns-clause-all : goal.returns-clause-all
 returns-clause-all g c =
     let bs = c.args.bytes.now in
-    let n : c.count_pieces-pieces.result ≡ export_pieces bs = c.count_pieces-pieces.ensures ∙ pieces-count bs c.accept-accepted.result c.accept-accepted.ensures in
+    let n : c.count_pieces-pieces.result ≡ export_pieces bs = pieces-count bs c.accept-accepted.result c.accept-accepted.ensures c.count_pieces-pieces.result c.count_pieces-pieces.ensures in
     let h : c.loop-i.i ≡ export_pieces bs = omega (arith, n) in
     exported-all bs _ _ c.loop-i.i c.loop-i.invariant h

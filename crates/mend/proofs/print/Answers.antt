@@ -14,13 +14,13 @@ loop-i-init g c = record { mended = c.requires.1; given = reported-none c.args.b
 pub put_piece-size-requires : goal.put_piece-size-requires
 put_piece-size-requires g c =
     let bs = c.args.bytes.now in
-    let n : c.count_pieces-pieces.result ≡ report_pieces bs = c.count_pieces-pieces.ensures ∙ pieces-count bs c.args.accepted c.requires.0 in
+    let n : c.count_pieces-pieces.result ≡ report_pieces bs = pieces-count bs c.args.accepted.now c.requires.0 c.count_pieces-pieces.result c.count_pieces-pieces.ensures in
     (c.requires.0, omega (arith, n), c.loop-i.invariant.mended, search rules)
 
 pub returns-in_err-write_text-clause-start : goal.returns-in_err-write_text-clause-start
 returns-in_err-write_text-clause-start g c =
     let bs = c.args.bytes.now in
-    let n : c.count_pieces-pieces.result ≡ report_pieces bs = c.count_pieces-pieces.ensures ∙ pieces-count bs c.args.accepted c.requires.0 in
+    let n : c.count_pieces-pieces.result ≡ report_pieces bs = pieces-count bs c.args.accepted.now c.requires.0 c.count_pieces-pieces.result c.count_pieces-pieces.ensures in
     let h : c.loop-i.i < report_pieces bs = omega (arith, n) in
     let p = c.put_piece-size in
     let e : take p.result p.new.text ≡ report_piece bs c.loop-i.i =
@@ -40,20 +40,20 @@ loop-i-preserved g c =
 pub returns-clause-mended : goal.returns-clause-mended
 returns-clause-mended g c =
     let bs = c.args.bytes.now in
-    let n : c.count_pieces-pieces.result ≡ report_pieces bs = c.count_pieces-pieces.ensures ∙ pieces-count bs c.args.accepted c.requires.0 in
+    let n : c.count_pieces-pieces.result ≡ report_pieces bs = pieces-count bs c.args.accepted.now c.requires.0 c.count_pieces-pieces.result c.count_pieces-pieces.ensures in
     let h : c.loop-i.i ≡ report_pieces bs = omega (arith, n) in
     c.loop-i.invariant.mended ∙ ap (output_at bs) h
 
 pub returns-clause-start : goal.returns-clause-start
 returns-clause-start g c =
     let bs = c.args.bytes.now in
-    let n : c.count_pieces-pieces.result ≡ report_pieces bs = c.count_pieces-pieces.ensures ∙ pieces-count bs c.args.accepted c.requires.0 in
+    let n : c.count_pieces-pieces.result ≡ report_pieces bs = pieces-count bs c.args.accepted.now c.requires.0 c.count_pieces-pieces.result c.count_pieces-pieces.ensures in
     let h : c.loop-i.i ≡ report_pieces bs = omega (arith, n) in
     start-whole _ _ (report_of bs) (reported-all bs _ _ c.loop-i.i c.loop-i.invariant.given h)
 
 pub returns-clause-all : goal.returns-clause-all
 returns-clause-all g c =
     let bs = c.args.bytes.now in
-    let n : c.count_pieces-pieces.result ≡ report_pieces bs = c.count_pieces-pieces.ensures ∙ pieces-count bs c.args.accepted c.requires.0 in
+    let n : c.count_pieces-pieces.result ≡ report_pieces bs = pieces-count bs c.args.accepted.now c.requires.0 c.count_pieces-pieces.result c.count_pieces-pieces.ensures in
     let h : c.loop-i.i ≡ report_pieces bs = omega (arith, n) in
     reported-all bs _ _ c.loop-i.i c.loop-i.invariant.given h
