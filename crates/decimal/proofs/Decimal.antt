@@ -19,23 +19,29 @@ digits_same (suc n) (suc m) zero h k = refl
 digits_same (suc n) (suc m) (suc x) h k =
     ap (λ (l : List ℕ). l ++ (48 + suc x % 10) ∷ []) (digits_same n m (suc x / 10) (omega arith) (omega arith))
 
-pub decimal-small : (x : ℕ) → x < 10 → decimal x ≡ (48 + x) ∷ []
-unfolding decimal digits
-decimal-small x h = rw (div-eq_of_lt h, mod-eq_of_lt h) (none x)
-  where
-    none : (n : ℕ) → digits n 0 ++ (48 + x) ∷ [] ≡ (48 + x) ∷ []
-    none zero = refl
-    none (suc n) = refl
+-- the digits before the last one: none, or those of a tenth
+pub front-none : (x : ℕ) → x < 10 → digits x (x / 10) ≡ []
+unfolding digits
+front-none zero h = refl
+front-none (suc x) h = rw (div-eq_of_lt h) refl
 
-pub decimal-large : (x : ℕ) → 10 ≤ x → decimal x ≡ decimal (x / 10) ++ (48 + x % 10) ∷ []
+pub front-some : (x : ℕ) → 10 ≤ x → digits x (x / 10) ≡ decimal (x / 10)
 unfolding decimal digits
-decimal-large x h = ap (λ (l : List ℕ). l ++ (48 + x % 10) ∷ []) (front x (x / 10) (omega arith) (omega arith))
+front-some x h = front x (x / 10) (omega arith) (omega arith)
   where
     front : (n y : ℕ) → 0 < y → y ≤ n → digits n y ≡ digits y (y / 10) ++ (48 + y % 10) ∷ []
     front zero y p q = absurd (omega arith)
     front (suc n) zero p q = absurd (not-suc-le-zero p)
     front (suc n) (suc y) p q =
         ap (λ (l : List ℕ). l ++ (48 + suc y % 10) ∷ []) (digits_same n (suc y) (suc y / 10) (omega arith) (omega arith))
+
+pub decimal-small : (x : ℕ) → x < 10 → decimal x ≡ (48 + x) ∷ []
+unfolding decimal
+decimal-small x h = rw (front-none x h, mod-eq_of_lt h) refl
+
+pub decimal-large : (x : ℕ) → 10 ≤ x → decimal x ≡ decimal (x / 10) ++ (48 + x % 10) ∷ []
+unfolding decimal
+decimal-large x h = ap (λ (l : List ℕ). l ++ (48 + x % 10) ∷ []) (front-some x h)
 
 pub longer : (x : ℕ) → 10 ≤ x → length (decimal x) ≡ length (decimal (x / 10)) + 1
 longer x h = ap length (decimal-large x h) ∙ length-append (decimal (x / 10)) ((48 + x % 10) ∷ [])

@@ -1,3 +1,4 @@
 pub mod Written
 pub mod Decimal
 pub mod Signed
+pub mod Puts

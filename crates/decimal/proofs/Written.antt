@@ -13,17 +13,6 @@ use Rattle.decimal.specs.Decimal.{written}
 abbrev pub Wrote : List ℕ → ℕ → List ℕ → List ℕ → ℕ → Type 0
 Wrote old at text new end = (new ≡ written at text old) × (end ≡ at + length text)
 
--- what is left to write from `end` on, so that a text stands at `at`
-pub record Left (old : List ℕ) (at : ℕ) (text new : List ℕ) (end : ℕ) (rest : List ℕ) : Type 0 where
-  pub buffer : written end rest new ≡ written at text old
-  pub place : end + length rest ≡ at + length text
-
--- a line so far: a text of at most n bytes, in a buffer as long as it was
-pub record Part (old : List ℕ) (at n : ℕ) (text new : List ℕ) (end : ℕ) : Type 0 where
-  pub wrote : Wrote old at text new end
-  pub kept : length new ≡ length old
-  pub short : length text ≤ n
-
 -- a call that wrote a text from the start, where the text is a line, or lines, that have room
 pub wrote-line : {room : ℕ} (old new line text : List ℕ) (r : ℕ) → line ≡ text → Wrote old 0 text new r → length text ≤ room
     → (new ≡ written 0 line old) × (r ≡ length line) × (r ≤ room)
@@ -70,37 +59,3 @@ written-more old a b at h =
     ∙ drop-drop (length b) (at + length a) old
     ∙ ap (λ (k : ℕ). drop k old) n in
     rw (t, d, append_assoc (take at old) a b)
-
-pub wrote-more : {mid new : List ℕ} {m r : ℕ} (old a b : List ℕ) (at : ℕ) → at + length a ≤ length old → Wrote old at a mid m → Wrote mid m b new r
-    → Wrote old at (a ++ b) new r
-wrote-more old a b at h p q =
-    (q.0 ∙ rw (p.1, p.0) (written-more old a b at h), omega (arith, p.1, q.1, length-append a b))
-
-pub left-all : (old text : List ℕ) (at : ℕ) → Left old at text old at text
-left-all old text at = record { buffer = refl; place = refl }
-
--- a part of what is left is written
-pub left-more : {old text x new : List ℕ} {at p r : ℕ} (a rest : List ℕ) → p + length a ≤ length x
-    → Left old at text x p (a ++ rest) → Wrote x p a new r → Left old at text new r rest
-left-more {x = x} {p = p} a rest h l q =
-    record {
-      buffer = rw (q.1, q.0) (written-more x a rest p h) ∙ l.buffer;
-      place = omega (arith, l.place, q.1, length-append a rest);
-    }
-
-pub left-none : {old text new : List ℕ} {at p : ℕ} → Left old at text new p [] → Wrote old at text new p
-left-none {new = new} {p = p} l = (sym (written_none new p) ∙ l.buffer, sym (add-zero p) ∙ l.place)
-
--- a line goes on by a text b of at most m bytes
-pub part_room : {old text mid : List ℕ} {at n p : ℕ} (b : List ℕ) (m : ℕ) → length b ≤ m → at + (n + m) ≤ length old → Part old at n text mid p
-    → p + length b ≤ length mid
-part_room b m l q h = omega (arith, h.wrote.1, h.kept, h.short)
-
-pub part-more : {old text mid new : List ℕ} {at n p r : ℕ} (b : List ℕ) (m : ℕ) → length b ≤ m → at + (n + m) ≤ length old → Part old at n text mid p
-    → Wrote mid p b new r → length new ≡ length mid → Part old at (n + m) (text ++ b) new r
-part-more {old = old} {text = text} {at = at} b m l q h w k =
-    record {
-      wrote = wrote-more old text b at (omega (arith, h.short)) h.wrote w;
-      kept = k ∙ h.kept;
-      short = omega (arith, h.short, length-append text b);
-    }

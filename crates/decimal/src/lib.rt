@@ -1,66 +1,94 @@
-// Numbers as text: each function writes its text into a lent buffer from `at` on and gives the position after it.
+// Numbers as text, written one after another at the front of a lent buffer.
 #![tactic(auto)]
 
-ghost use Rattle.std.specs.Prelude.{◌≡◌, [], ◌∷◌, ◌+◌, ◌≤◌, length};
-ghost use Rattle.decimal.specs.Decimal.{written, decimal, sign, signed_text, hundredths_text};
+ghost use Rattle.std.specs.Prelude.{◌≡◌, ◌≤◌, length};
 
 use words::Signed;
 
-pub fn put_byte(out: &mut [u8], at: usize, b: u8) -> usize
-    requires { at + 1 ≤ length out.old }
-    ensures { (out.new ≡ written at (b ∷ []) out.old) × (result ≡ at + 1) }
-{
-    out[at] = b;
-    at + 1
+// A text so far, at the front of a lent buffer.
+#[derive(Drop)]
+pub struct Text<'a> {
+    pub buffer: &'a mut [u8],
+    pub len: usize,
+    ghost within: { len ≤ length buffer.now },
 }
 
-pub fn put_bytes(out: &mut [u8], at: usize, s: &[u8]) -> usize
-    requires { at + length s.now ≤ length out.old }
-    ensures { (out.new ≡ written at s.now out.old) × (result ≡ at + length s.now) }
-{
-    let end = at + s.len();
-    out[at..end].copy_from_slice(s);
-    end
-}
+impl<'a> Text<'a> {
+    ghost use Rattle.std.specs.Prelude.{[], ◌∷◌};
+    ghost use Rattle.decimal.specs.Decimal.{decimal, sign, signed_text, hundredths_text};
+    ghost use Rattle.decimal.specs.Puts.{HasRoom, Puts};
 
-// The digits before the last one are those of a tenth of the number.
-pub fn put_decimal(out: &mut [u8], at: usize, x: u64) -> usize
-    requires { at + length (decimal x) ≤ length out.old }
-    ensures { (out.new ≡ written at (decimal x) out.old) × (result ≡ at + length (decimal x)) }
-{
-    if x < 10 {
-        return put_byte(out, at, 48 + x as u8);
+    pub fn new(buffer: &'a mut [u8]) -> Text<'a>
+        ensures empty { (result.len ≡ 0) × (result.buffer.now ≡ buffer.old) }
+        ensures same { result.buffer.ghost_name ≡ buffer.entry.ghost_name }
+    {
+        Text { buffer, len: 0 }
     }
-    let p = put_decimal(out, at, x / 10);
-    put_byte(out, p, 48 + (x % 10) as u8)
-}
 
-fn put_sign(out: &mut [u8], at: usize, negative: bool) -> usize
-    requires { at + length (sign negative) ≤ length out.old }
-    ensures { (out.new ≡ written at (sign negative) out.old) × (result ≡ at + length (sign negative)) }
-{
-    if negative {
-        return put_byte(out, at, b'-');
+    // How many bytes it has.
+    pub fn len(&self) -> usize
+        ensures { result ≡ self.now.len }
+    {
+        self.len
     }
-    at
-}
 
-pub fn put_signed(out: &mut [u8], at: usize, s: Signed) -> usize
-    requires { at + length (signed_text s) ≤ length out.old }
-    ensures { (out.new ≡ written at (signed_text s) out.old) × (result ≡ at + length (signed_text s)) }
-{
-    let p = put_sign(out, at, s.negative);
-    put_decimal(out, p, s.magnitude)
-}
+    pub fn byte(&mut self, b: u8)
+        requires { HasRoom self.old (b ∷ []) }
+        ensures { Puts self.old self.new (b ∷ []) }
+    {
+        self.buffer[self.len] = b;
+        self.len += 1;
+    }
 
-// A number of hundredths, with two decimals.
-pub fn put_hundredths(out: &mut [u8], at: usize, s: Signed) -> usize
-    requires { at + length (hundredths_text s) ≤ length out.old }
-    ensures { (out.new ≡ written at (hundredths_text s) out.old) × (result ≡ at + length (hundredths_text s)) }
-{
-    let p = put_sign(out, at, s.negative);
-    let q = put_decimal(out, p, s.magnitude / 100);
-    let point = put_byte(out, q, b'.');
-    let tenths = put_byte(out, point, 48 + (s.magnitude / 10 % 10) as u8);
-    put_byte(out, tenths, 48 + (s.magnitude % 10) as u8)
+    pub fn bytes(&mut self, s: &[u8])
+        requires { HasRoom self.old s.now }
+        ensures { Puts self.old self.new s.now }
+    {
+        let end = self.len + s.len();
+        self.buffer[self.len..end].copy_from_slice(s);
+        self.len = end;
+    }
+
+    // The digits before the last one are those of a tenth of the number.
+    pub fn decimal(&mut self, x: u64)
+        requires { HasRoom self.old (decimal x) }
+        ensures { Puts self.old self.new (decimal x) }
+    {
+        if x >= 10 {
+            self.decimal(x / 10);
+        }
+        self.byte(48 + (x % 10) as u8);
+    }
+
+    #[tactic(auto, using(crate::proofs::Puts::texts), unfolding(crate::specs::Decimal::sign))]
+    fn sign(&mut self, negative: bool)
+        requires { HasRoom self.old (sign negative) }
+        ensures { Puts self.old self.new (sign negative) }
+    {
+        if negative {
+            self.byte(b'-');
+        }
+    }
+
+    #[tactic(auto, using(crate::proofs::Puts::texts), unfolding(crate::specs::Decimal::signed_text))]
+    pub fn signed(&mut self, s: Signed)
+        requires { HasRoom self.old (signed_text s) }
+        ensures { Puts self.old self.new (signed_text s) }
+    {
+        self.sign(s.negative);
+        self.decimal(s.magnitude);
+    }
+
+    // A number of hundredths, with two decimals.
+    #[tactic(auto, using(crate::proofs::Puts::texts), unfolding(crate::specs::Decimal::hundredths_text))]
+    pub fn hundredths(&mut self, s: Signed)
+        requires { HasRoom self.old (hundredths_text s) }
+        ensures { Puts self.old self.new (hundredths_text s) }
+    {
+        self.sign(s.negative);
+        self.decimal(s.magnitude / 100);
+        self.byte(b'.');
+        self.byte(48 + (s.magnitude / 10 % 10) as u8);
+        self.byte(48 + (s.magnitude % 10) as u8);
+    }
 }
