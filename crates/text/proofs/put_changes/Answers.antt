@@ -1,16 +1,15 @@
--- `put_changes`: each turn writes the line of the lowest holder that is left; what is left to write shrinks to nothing. Assumes nothing.
+-- `put_changes`: each turn puts the line of the lowest holder that is left; what is left to put shrinks to nothing. Assumes nothing.
 use borrow.Author.Rules.{rules}
 use native.Mathlib.Omega.{arith}
-use mathlib.Core.Path.{◌≡◌, refl, ap, ◌∙◌}
+use mathlib.Core.Path.{◌≡◌, ap, ◌∙◌}
 use mathlib.Core.List.{◌++◌}
 use Prim.Native.Nat.{ℕ, ◌+◌, ◌-◌, ◌/◌, ◌^◌, ◌≤◌, ◌<◌}
 use native.Mathlib.Nat.{pos_of_ne-zero}
-use lib.ListN.{length, length-append}
 use lib.Count.{count_trailing_zeros}
 use Rattle.text.specs.Text.{holders, changed_line, changed_lines}
-use Rattle.decimal.proofs.Written.{left-all, left-more, left-none}
+use Rattle.decimal.proofs.Puts.{Rest, rest-all, rest-more, rest-room, rest-none}
 use Rattle.text.proofs.Holders.{next-room, next-lt}
-use Rattle.text.proofs.Lines.{changes-length, rest_lines, changes-next, changes-last}
+use Rattle.text.proofs.Lines.{rest_lines, changes-next, changes-last}
 use Rattle.text.proofs.put_changes.Goals as goal
 use Rattle.text.proofs.put_changes.Goals.{In-loop-w}
 
@@ -32,24 +31,16 @@ others-lt c =
     next-lt l.i l.w l.invariant.0 (pos_of_ne-zero c.loop-w-test.true) l.invariant.1
 
 -- its line comes next
-text : (c : In-loop-w)
+left : (c : In-loop-w)
     → let n = c.args.number in
-    rest_lines n c.loop-w.i c.loop-w.w ≡ changed_line n (holder c) ++ rest_lines n (holder c) (others c)
-text c =
+    Rest c.args.text.now c.loop-w.text (changed_lines n (holders c.args.set)) (changed_line n (holder c) ++ rest_lines n (holder c) (others c))
+left c =
     let l = c.loop-w in
-    changes-next c.args.number l.i l.w l.invariant.0 (pos_of_ne-zero c.loop-w-test.true) l.invariant.1
-
--- and there is room for it
-room : (c : In-loop-w)
-    → c.loop-w.p + length (changed_line c.args.number (holder c)) ≤ length c.loop-w.out
-room c =
-    let n = c.args.number in
-    let e = ap length (text c) ∙ length-append (changed_line n (holder c)) (rest_lines n (holder c) (others c)) in
-    omega (arith, e, c.loop-w.invariant.2, c.loop-w.invariant.3.place, c.requires, changes-length n c.args.set (omega arith))
+    rw (changes-next c.args.number l.i l.w l.invariant.0 (pos_of_ne-zero c.loop-w-test.true) l.invariant.1) at l.invariant.2
 
 pub loop-w-init : goal.loop-w-init
 unfolding holders
-loop-w-init c = (search rules, search rules, refl, left-all c.args.out.now (changed_lines c.args.number (holders c.args.set)) c.args.at)
+loop-w-init c = (search rules, search rules, rest-all c.args.text.now (changed_lines c.args.number (holders c.args.set)))
 
 pub overflow_cast-z : goal.overflow_cast-z
 overflow_cast-z c = omega (arith, holder-room c)
@@ -63,8 +54,10 @@ overflow_add-i-in-loop-w c = omega (arith, holder-room c)
 pub overflow_shr-w : goal.overflow_shr-w
 overflow_shr-w c = omega (arith, holder-room c)
 
-pub put_changed-p-requires : goal.put_changed-p-requires
-put_changed-p-requires c = room (goal.at.put_changed-p-requires c).In-loop-w
+pub put_changed-requires : goal.put_changed-requires
+put_changed-requires c =
+    let b = (goal.at.put_changed-requires c).In-loop-w in
+    rest-room (changed_line b.args.number (holder b)) (rest_lines b.args.number (holder b) (others b)) b.requires (left b)
 
 pub loop-w-smaller : goal.loop-w-smaller
 loop-w-smaller c = omega (arith, holder-room (goal.at.loop-w-smaller c).In-loop-w)
@@ -72,15 +65,9 @@ loop-w-smaller c = omega (arith, holder-room (goal.at.loop-w-smaller c).In-loop-
 pub loop-w-preserved : goal.loop-w-preserved
 loop-w-preserved c =
     let b = (goal.at.loop-w-preserved c).In-loop-w in
-    let w = c.put_changed-p in
-    let n = b.args.number in (
-      holder-room b,
-      others-lt b,
-      w.auto.out ∙ b.loop-w.invariant.2,
-      left-more (changed_line n (holder b)) (rest_lines n (holder b) (others b)) (room b) (rw (text b) at b.loop-w.invariant.3) w.ensures,
-    )
+    (holder-room b, others-lt b, rest-more (rest_lines b.args.number (holder b) (others b)) (left b) c.put_changed.ensures)
 
 pub returns : goal.returns
 returns c =
     let l = c.loop-w in
-    left-none (rw (changes-last c.args.number l.i l.w c.loop-w-test.false) at l.invariant.3)
+    rest-none (rw (changes-last c.args.number l.i l.w c.loop-w-test.false) at l.invariant.2)

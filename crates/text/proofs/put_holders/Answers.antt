@@ -1,17 +1,17 @@
+-- `put_holders`: each turn puts the lowest holder that is left; what is left to put shrinks to nothing. Assumes nothing.
 use borrow.Author.Rules.{rules}
 use native.Mathlib.Omega.{arith}
-use mathlib.Core.Path.{◌≡◌, refl, ap, ◌∙◌}
+use mathlib.Core.Path.{◌≡◌, ap, ◌∙◌}
 use mathlib.Core.List.{List, [], ◌∷◌, ◌++◌}
 use Prim.Native.Nat.{ℕ, ◌+◌, ◌-◌, ◌/◌, ◌^◌, ◌≤◌, ◌<◌}
 use native.Mathlib.Nat.{pos_of_ne-zero}
-use lib.ListN.{length, length-append}
 use lib.Count.{count_trailing_zeros}
 use Rattle.text.specs.Text.{holders, holder_text, holders_text}
-use Rattle.decimal.proofs.Written.{Left, left-all, left-more, left-none}
+use Rattle.decimal.proofs.Puts.{Rest, rest-all, rest-more, rest-room, rest-none}
 use Rattle.text.proofs.Holders.{next-room, next-lt}
 use Rattle.text.proofs.Joined.{rest_text, after_text, no-holders, holders-next, holders-last, holders-comma}
 use Rattle.text.proofs.put_holders.Goals as goal
-use Rattle.text.proofs.put_holders.Goals.{After-put_holder-p, At-loop-w}
+use Rattle.text.proofs.put_holders.Goals.{After-put_holder, At-loop-w, Else-w-eq0}
 
 abbrev lowest : At-loop-w → List ℕ
 lowest l = l.args.lowest.now
@@ -36,34 +36,38 @@ here l = holder_text (lowest l) (holder l)
 abbrev after : At-loop-w → List ℕ
 after l = after_text (lowest l) (holder l) (others l)
 
-text : (l : At-loop-w) → rest_text (lowest l) l.loop-w.i l.loop-w.w ≡ here l ++ after l
-text l = holders-next (lowest l) l.loop-w.i l.loop-w.w l.loop-w.invariant.0 l.loop-w.invariant.1.0 l.loop-w.invariant.1.1
+left : (l : At-loop-w) → Rest l.args.text.now l.loop-w.text (holders_text (lowest l) l.args.set) (here l ++ after l)
+left l =
+    rw (holders-next (lowest l) l.loop-w.i l.loop-w.w l.loop-w.invariant.0 l.loop-w.invariant.1.0 l.loop-w.invariant.1.1) at l.loop-w.invariant.2
 
--- there is room for both
-room : (l : At-loop-w) → l.loop-w.p + (length (here l) + length (after l)) ≤ length l.loop-w.out
-room l =
-    let e = ap length (text l) ∙ length-append (here l) (after l) in
-    omega (arith, e, l.loop-w.invariant.2, l.loop-w.invariant.3.place, l.requires.1)
+-- what is left once it is put
+left_then : (c : After-put_holder)
+    → let l = (goal.at.After-put_holder c).At-loop-w in
+    Rest l.args.text.now c.put_holder.new.text (holders_text (lowest l) l.args.set) (after l)
+left_then c =
+    let l = (goal.at.After-put_holder c).At-loop-w in
+    rest-more (after l) (left l) c.put_holder.ensures
 
--- what is left to write once it is written
-written_one : (c : After-put_holder-p)
-    → let l = (goal.at.After-put_holder-p c).At-loop-w in
-    Left l.args.out.now l.args.at (holders_text (lowest l) l.args.set) c.put_holder-p.new.out c.put_holder-p.result (after l)
-written_one c =
-    let l = (goal.at.After-put_holder-p c).At-loop-w in
-    left-more (here l) (after l) (omega (arith, room l)) (rw (text l) at l.loop-w.invariant.3) c.put_holder-p.ensures
+-- a comma, where holders are left
+left_comma : (c : Else-w-eq0)
+    → let l = (goal.at.Else-w-eq0 c).At-loop-w in
+    Rest l.args.text.now (goal.at.Else-w-eq0 c).After-put_holder.put_holder.new.text (holders_text (lowest l) l.args.set)
+    ((44 ∷ []) ++ rest_text (lowest l) (holder l) (others l))
+left_comma c =
+    let l = (goal.at.Else-w-eq0 c).At-loop-w in
+    let r = left_then (goal.at.Else-w-eq0 c).After-put_holder in
+    rw (holders-comma (lowest l) (holder l) (others l) (holder-room l) (pos_of_ne-zero c.if-w-eq0.false) (others-lt l)) at r
 
-pub put_byte-requires : goal.put_byte-requires
-put_byte-requires c = omega (arith, c.requires, ap length (no-holders c.args.lowest.now c.args.set c.if-set-eq0.true))
+pub byte-requires : goal.byte-requires
+byte-requires c = rw (no-holders c.args.lowest.now c.args.set c.if-set-eq0.true) at c.requires.1
 
 pub returns-then-set-eq0 : goal.returns-then-set-eq0
-returns-then-set-eq0 c = rw (no-holders c.args.lowest.now c.args.set c.if-set-eq0.true) c.put_byte.ensures
+returns-then-set-eq0 c = rw (no-holders c.args.lowest.now c.args.set c.if-set-eq0.true) c.byte.ensures
 
 pub loop-w-init : goal.loop-w-init
 unfolding holders
 loop-w-init c =
-    let text = holders_text c.args.lowest.now c.args.set in
-    (search rules, (pos_of_ne-zero c.if-set-eq0.false, search rules), refl, left-all c.args.out.now text c.args.at)
+    (search rules, (pos_of_ne-zero c.if-set-eq0.false, search rules), rest-all c.args.text.now (holders_text c.args.lowest.now c.args.set))
 
 pub overflow_cast-z : goal.overflow_cast-z
 overflow_cast-z c = omega (arith, holder-room c)
@@ -77,37 +81,33 @@ overflow_add-i-in-loop-w c = omega (arith, holder-room c)
 pub overflow_shr-w : goal.overflow_shr-w
 overflow_shr-w c = omega (arith, holder-room c)
 
-pub put_holder-p-requires : goal.put_holder-p-requires
-put_holder-p-requires c = omega (arith, holder-room (goal.at.put_holder-p-requires c).At-loop-w, room (goal.at.put_holder-p-requires c).At-loop-w, c.requires.0)
+pub put_holder-requires : goal.put_holder-requires
+put_holder-requires c =
+    let l = (goal.at.put_holder-requires c).At-loop-w in
+    let f : holder l ≤ 64 = holder-room l in
+    ((omega arith, omega (arith, f, l.requires.0)), rest-room (here l) (after l) l.requires.1 (left l))
 
 pub returns-then-w-eq0 : goal.returns-then-w-eq0
 returns-then-w-eq0 c =
     let l = (goal.at.returns-then-w-eq0 c).At-loop-w in
-    left-none
-    (rw (holders-last (lowest l) (holder l) (others l) c.if-w-eq0.true) at (written_one (goal.at.returns-then-w-eq0 c).After-put_holder-p))
+    let r = left_then (goal.at.returns-then-w-eq0 c).After-put_holder in
+    rest-none (rw (holders-last (lowest l) (holder l) (others l) c.if-w-eq0.true) at r)
 
-pub put_byte-p-requires : goal.put_byte-p-requires
-put_byte-p-requires c =
-    let l = (goal.at.put_byte-p-requires c).At-loop-w in
-    let e = ap length (holders-comma (lowest l) (holder l) (others l) (holder-room l) (pos_of_ne-zero c.if-w-eq0.false) (others-lt l)) in
-    omega (arith, e, room l, c.put_holder-p.ensures.1, c.put_holder-p.auto.out)
+pub byte-requires-in-loop-w : goal.byte-requires-in-loop-w
+byte-requires-in-loop-w c =
+    let e = (goal.at.byte-requires-in-loop-w c).Else-w-eq0 in
+    let l = (goal.at.Else-w-eq0 e).At-loop-w in
+    rest-room (44 ∷ []) (rest_text (lowest l) (holder l) (others l)) l.requires.1 (left_comma e)
 
 pub loop-w-smaller : goal.loop-w-smaller
 loop-w-smaller c = omega (arith, holder-room (goal.at.loop-w-smaller c).At-loop-w)
 
 pub loop-w-preserved : goal.loop-w-preserved
 loop-w-preserved c =
-    let d = (goal.at.loop-w-preserved c).After-put_holder-p in
-    let l = (goal.at.loop-w-preserved c).At-loop-w in
-    let p = pos_of_ne-zero c.if-w-eq0.false in
-    let e = holders-comma (lowest l) (holder l) (others l) (holder-room l) p (others-lt l) in (
+    let e = (goal.at.loop-w-preserved c).Else-w-eq0 in
+    let l = (goal.at.Else-w-eq0 e).At-loop-w in
+    (
       holder-room l,
-      (p, others-lt l),
-      c.put_byte-p.auto.out ∙ d.put_holder-p.auto.out ∙ l.loop-w.invariant.2,
-      left-more
-          (44 ∷ [])
-          (rest_text (lowest l) (holder l) (others l))
-          (omega (arith, ap length e, room l, d.put_holder-p.ensures.1, d.put_holder-p.auto.out))
-          (rw e at (written_one d))
-          c.put_byte-p.ensures,
+      (pos_of_ne-zero e.if-w-eq0.false, others-lt l),
+      rest-more (rest_text (lowest l) (holder l) (others l)) (left_comma e) c.byte-in-loop-w.ensures,
     )

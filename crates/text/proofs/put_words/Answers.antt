@@ -1,121 +1,110 @@
-use borrow.Author.Rules.{rules}
+-- `put_words`: the first word, and then each after a comma. Assumes nothing.
 use native.Mathlib.Omega.{arith}
-use mathlib.Core.Path.{◌≡◌, refl, sym, ap, ◌∙◌}
+use mathlib.Core.Path.{◌≡◌, ap, ◌∙◌, subst}
 use mathlib.Core.List.{List, [], ◌∷◌, ◌++◌}
-use Prim.Native.Nat.{ℕ, suc, ◌+◌, ◌≤◌}
+use Prim.Native.Nat.{ℕ, suc, ◌+◌, ◌^◌, ◌≤◌, ◌<◌}
 use native.Mathlib.Numerals.{add-one}
-use lib.ListN.{length, take, drop, get_or, length-append, length-drop, drop_of_length-le}
+use lib.ListN.{length, take, drop, get_or, length-drop, drop_of_length-le}
 use lib.Seq.{length-take-le, get_or-take}
+use Rattle.words.specs.Signed.{signed_of}
 use Rattle.words.proofs.Width.{width-at}
 use Rattle.decimal.specs.Decimal.{signed_text}
 use Rattle.text.specs.Text.{after_commas, joined}
-use Rattle.decimal.proofs.Written.{Left, left-all, left-more, left-none}
+use Rattle.decimal.proofs.Puts.{Rest, rest-all, rest-more, rest-room, rest-none}
 use Rattle.text.proofs.Joined.{word_texts, word-texts-length, word-text, comma, joined_at}
 use Rattle.text.proofs.put_words.Goals as goal
-use Rattle.text.proofs.put_words.Goals.{After-put_signed-end, After-read_signed, At-loop-i, Else-i-d, Start}
+use Rattle.text.proofs.put_words.Goals.{Start, In-loop-i, After-byte}
 
 abbrev texts : Start → List (List ℕ)
 texts s = word_texts s.args.k s.args.d s.args.words
 
+-- the text of one word, and those after it
+abbrev word : Start → ℕ → List ℕ
+word s i = signed_text (signed_of s.args.k (get_or s.args.words i 0))
+
+abbrev others : Start → ℕ → List ℕ
+others s i = after_commas (drop (suc i) (texts s))
+
+six : (s : Start) → length s.args.words ≡ 6
+six s = omega (arith, s.well_formed)
+
 texts-length : (s : Start) → length (texts s) ≡ s.args.d
-texts-length s =
-    let h : length s.args.words ≡ 6 = omega (arith, s.well_formed) in
-    word-texts-length s.args.k s.args.d s.args.words (omega (arith, s.requires))
+texts-length s = word-texts-length s.args.k s.args.d s.args.words (omega (arith, s.requires, six s))
 
--- the text of this turn, and of the words after it
-abbrev rest : (l : At-loop-i) → List (List ℕ)
-rest l = drop (suc l.loop-i.i) (texts (goal.at.At-loop-i l).Start)
+narrow : (s : Start) (i : ℕ) → i < s.args.d → get_or s.args.words i 0 < 2 ^ s.args.k
+narrow s i h =
+    let t : length (take s.args.d s.args.words) ≡ s.args.d = length-take-le s.args.d s.args.words (omega (arith, s.requires, six s)) in
+    let w = width-at s.args.k (take s.args.d s.args.words) i s.requires.2 (omega (arith, t, h)) in
+    rw (get_or-take s.args.d s.args.words i 0 h) at w
 
-text : (c : After-read_signed)
-    → let l = (goal.at.After-read_signed c).At-loop-i in
-    joined (drop l.loop-i.i (texts (goal.at.At-loop-i l).Start)) ≡ signed_text c.read_signed.result ++ after_commas (rest l)
-text c =
-    let l = (goal.at.After-read_signed c).At-loop-i in
-    let s = (goal.at.At-loop-i l).Start in
-    let h : length s.args.words ≡ 6 = omega (arith, s.well_formed) in
-    let w = word-text s.args.k s.args.d s.args.words l.loop-i.i l.loop-i.invariant.0 (omega (arith, s.requires)) in
-    let e : signed_text c.read_signed.result ≡ get_or (texts s) l.loop-i.i [] = ap signed_text c.read_signed.ensures ∙ sym w in
-    rw e (joined_at (texts s) l.loop-i.i (omega (arith, texts-length s, l.loop-i.invariant.0)))
+from : (s : Start) (i : ℕ) → i < s.args.d → joined (drop i (texts s)) ≡ word s i ++ others s i
+from s i h =
+    joined_at (texts s) i (omega (arith, texts-length s, h))
+    ∙ ap (λ (l : List ℕ). l ++ others s i) (word-text s.args.k s.args.d s.args.words i h (omega (arith, s.requires, six s)))
 
--- there is room for it, and for those after it
-room : (c : After-read_signed)
-    → let l = (goal.at.After-read_signed c).At-loop-i in
-    l.loop-i.end + (length (signed_text c.read_signed.result) + length (after_commas (rest l))) ≤ length l.loop-i.out
-room c =
-    let l = (goal.at.After-read_signed c).At-loop-i in
-    let e = ap length (text c) ∙ length-append (signed_text c.read_signed.result) (after_commas (rest l)) in
-    omega (arith, e, l.loop-i.invariant.1, l.loop-i.invariant.2.place, l.requires)
+-- the first word comes first
+first : (s : Start) → Rest s.args.text.now s.args.text.now (joined (texts s)) (word s 0 ++ others s 0)
+first s =
+    let a = s.args.text.now in
+    subst (λ (l : List ℕ). Rest a a (joined (texts s)) l) (from s 0 (omega (arith, s.requires))) (rest-all a (joined (texts s)))
 
--- what is left to write once it is written
-written_one : (c : After-put_signed-end)
-    → let l = (goal.at.After-put_signed-end c).At-loop-i in
-    let s = (goal.at.At-loop-i l).Start in
-    Left s.args.out.now s.args.at (joined (texts s)) c.put_signed-end.new.out c.put_signed-end.result (after_commas (rest l))
-written_one c =
-    let r = (goal.at.After-put_signed-end c).After-read_signed in
-    let l = (goal.at.After-read_signed r).At-loop-i in
-    left-more
-    (signed_text r.read_signed.result)
-    (after_commas (rest l))
-    (omega (arith, room r))
-    (rw (text r) at l.loop-i.invariant.2)
-    c.put_signed-end.ensures
+-- then a comma and the next word
+comma_next : (c : In-loop-i)
+    → let s = (goal.at.In-loop-i c).Start in
+    Rest s.args.text.now c.loop-i.text (joined (texts s)) ((44 ∷ []) ++ joined (drop c.loop-i.i (texts s)))
+comma_next c =
+    let s = (goal.at.In-loop-i c).Start in
+    let i = c.loop-i.i in
+    let r = c.loop-i.invariant in
+    rw (comma (drop i (texts s)) (rw (length-drop i (texts s)) (omega (arith, texts-length s, c.loop-i-test.true)))) at r
 
--- a comma comes where words are left
-more : (c : Else-i-d)
-    → let l = (goal.at.Else-i-d c).At-loop-i in
-    after_commas (rest l) ≡ (44 ∷ []) ++ joined (rest l)
-more c =
-    let l = (goal.at.Else-i-d c).At-loop-i in
-    let s = (goal.at.Else-i-d c).Start in
-    comma (rest l)
-    (rw (length-drop (suc l.loop-i.i) (texts s)) (omega (arith, texts-length s, l.loop-i.invariant.0, c.if-i-d.false)))
+next : (c : After-byte)
+    → let s = (goal.at.After-byte c).Start in
+    Rest s.args.text.now c.byte.new.self (joined (texts s)) (word s c.loop-i.i ++ others s c.loop-i.i)
+next c =
+    let s = (goal.at.After-byte c).Start in
+    let r = rest-more (joined (drop c.loop-i.i (texts s))) (comma_next (goal.at.After-byte c).In-loop-i) c.byte.ensures in
+    rw (from s c.loop-i.i c.loop-i-test.true) at r
+
+pub read_signed-requires : goal.read_signed-requires
+read_signed-requires c = (c.requires.0, narrow (goal.at.read_signed-requires c).Start 0 (omega (arith, c.requires)))
+
+pub signed-requires : goal.signed-requires
+signed-requires c =
+    let s = (goal.at.signed-requires c).Start in
+    rw c.read_signed.ensures (rest-room (word s 0) (others s 0) s.requires.3 (first s))
 
 pub loop-i-init : goal.loop-i-init
 loop-i-init c =
     let s = (goal.at.loop-i-init c).Start in
-    (search rules, refl, left-all s.args.out.now (joined (texts s)) s.args.at)
+    rest-more (others s 0) (first s) (rw c.read_signed.ensures at c.signed.ensures)
 
-pub read_signed-requires : goal.read_signed-requires
-read_signed-requires c =
-    let l = (goal.at.read_signed-requires c).At-loop-i in
-    let h : length l.args.words ≡ 6 = omega (arith, l.well_formed) in
-    let t : length (take l.args.d l.args.words) ≡ l.args.d = length-take-le l.args.d l.args.words (omega (arith, l.requires)) in
-    let w = width-at l.args.k (take l.args.d l.args.words) l.loop-i.i l.requires.2 (omega (arith, t, l.loop-i.invariant.0)) in
-    (l.requires.0, rw (get_or-take l.args.d l.args.words l.loop-i.i 0 l.loop-i.invariant.0) at w)
+pub byte-requires : goal.byte-requires
+byte-requires c =
+    let s = (goal.at.byte-requires c).Start in
+    rest-room (44 ∷ []) (joined (drop c.loop-i.i (texts s))) s.requires.3 (comma_next (goal.at.byte-requires c).In-loop-i)
 
-pub put_signed-end-requires : goal.put_signed-end-requires
-put_signed-end-requires c = omega (arith, room c)
+pub read_signed-requires-in-loop-i : goal.read_signed-requires-in-loop-i
+read_signed-requires-in-loop-i c = (c.requires.0, narrow (goal.at.read_signed-requires-in-loop-i c).Start c.loop-i.i c.loop-i-test.true)
 
-pub returns-then-i-d : goal.returns-then-i-d
-unfolding after_commas
-returns-then-i-d c =
-    let d = (goal.at.returns-then-i-d c).After-put_signed-end in
-    let l = (goal.at.returns-then-i-d c).At-loop-i in
-    let s = (goal.at.returns-then-i-d c).Start in
-    let e : rest l ≡ [] =
-    drop_of_length-le (texts s) {i = suc l.loop-i.i} (omega (arith, texts-length s, c.if-i-d.true)) in
-    left-none
-    (rw e at (written_one d))
-
-pub put_byte-end-requires : goal.put_byte-end-requires
-put_byte-end-requires c =
-    let d = (goal.at.put_byte-end-requires c).After-put_signed-end in
-    let e = ap length (more (goal.at.put_byte-end-requires c).Else-i-d) in
-    omega (arith, e, room (goal.at.After-put_signed-end d).After-read_signed, d.put_signed-end.ensures.1, d.put_signed-end.auto.out)
+pub signed-requires-in-loop-i : goal.signed-requires-in-loop-i
+signed-requires-in-loop-i c =
+    let s = (goal.at.signed-requires-in-loop-i c).Start in
+    rw c.read_signed-in-loop-i.ensures
+    (rest-room (word s c.loop-i.i) (others s c.loop-i.i) s.requires.3 (next (goal.at.signed-requires-in-loop-i c).After-byte))
 
 pub loop-i-preserved : goal.loop-i-preserved
 loop-i-preserved c =
-    let d = (goal.at.loop-i-preserved c).After-put_signed-end in
-    let l = (goal.at.loop-i-preserved c).At-loop-i in
-    let e = more (goal.at.loop-i-preserved c).Else-i-d in (
-      omega (arith, l.loop-i.invariant.0, c.if-i-d.false),
-      c.put_byte-end.auto.out ∙ d.put_signed-end.auto.out ∙ l.loop-i.invariant.1,
-      rw (add-one l.loop-i.i)
-          (left-more
-          (44 ∷ [])
-          (joined (rest l))
-          (omega (arith, ap length e, room (goal.at.After-put_signed-end d).After-read_signed, d.put_signed-end.ensures.1, d.put_signed-end.auto.out))
-          (rw e at (written_one d))
-          c.put_byte-end.ensures),
-    )
+    let s = (goal.at.loop-i-preserved c).Start in
+    rw (add-one c.loop-i.i)
+        (rest-more
+        (others s c.loop-i.i)
+        (next (goal.at.loop-i-preserved c).After-byte)
+        (rw c.read_signed-in-loop-i.ensures at c.signed-in-loop-i.ensures))
+
+pub returns : goal.returns
+unfolding after_commas
+returns c =
+    let s = (goal.at.returns c).Start in
+    let e : drop c.loop-i.i (texts s) ≡ [] = drop_of_length-le (texts s) {i = c.loop-i.i} (omega (arith, texts-length s, c.loop-i-test.false)) in
+    rest-none (rw e at c.loop-i.invariant)
