@@ -1,14 +1,14 @@
 -- Texts put one after another at the front of a lent buffer: together they are their concatenation, and fit if it does. Assumes nothing.
-use mathlib.Core.Path.{◌≡◌, refl, sym, ap, ◌∙◌}
+use mathlib.Core.Path.{◌≡◌, refl, sym, ◌∙◌}
 use mathlib.Core.List.{List, [], ◌++◌}
 use Prim.Native.Nat.{ℕ, ◌+◌, ◌≤◌}
 use native.Mathlib.Nat.{add-zero}
 use native.Mathlib.Omega.{arith}
-use lib.ListN.{length, length-append}
+use lib.ListN.{length, take, length-append}
 use Rattle.decimal.specs.Decimal.{written}
 use Rattle.decimal.specs.declared.Text.{Text}
 use Rattle.decimal.specs.Puts.{HasRoom, Puts}
-use Rattle.decimal.proofs.Written.{written_none, written-more}
+use Rattle.decimal.proofs.Written.{written_none, take-written, written-more}
 
 -- nothing
 pub puts-none : (a : Text) → Puts a a []
@@ -66,6 +66,19 @@ rest-none {b = b} r =
       kept = r.kept;
       same = r.same;
     }
+
+-- a text that is put at the start: of its length, and there
+pub start-len : {a b : Text} {text : List ℕ} → a.len ≡ 0 → Puts a b text → b.len ≡ length text
+start-len e p = omega (arith, e, p.len)
+
+pub start-text : {a b : Text} {text room : List ℕ} {n : ℕ} → a.len ≡ 0 → Puts a b text → n ≡ b.len → room ≡ b.buffer.now → take n room ≡ text
+start-text {a = a} {b = b} {text = text} e p h r = rw (h, r, p.buffer, e) (take-written a.buffer.now text b.len (start-len e p))
+
+-- in a buffer that is lent for it, where it is a line that has room
+pub start-line : {a b : Text} {old line : List ℕ} {n room : ℕ} → (a.len ≡ 0) × (a.buffer.now ≡ old) → Puts a b line → n ≡ b.len → length line ≤ room
+    → (b.buffer.now ≡ written 0 line old) × (n ≡ length line) × (n ≤ room)
+start-line {line = line} e p h l =
+    (p.buffer ∙ rw (e.0, e.1) refl, h ∙ start-len e.0 p, omega (arith, h, l, start-len e.0 p))
 
 -- in place of goals about parts
 pub ruleset texts = (puts-none, room-front, room-more, puts-more)

@@ -81,14 +81,14 @@ impl<'a> Text<'a> {
 
     // A number of hundredths, with two decimals.
     #[tactic(auto, using(crate::proofs::Puts::texts), unfolding(crate::specs::Decimal::hundredths_text))]
-    pub fn hundredths(&mut self, s: Signed)
-        requires { HasRoom self.old (hundredths_text s) }
-        ensures { Puts self.old self.new (hundredths_text s) }
+    pub fn hundredths(&mut self, h: Signed)
+        requires { HasRoom self.old (hundredths_text h) }
+        ensures { Puts self.old self.new (hundredths_text h) }
     {
-        self.sign(s.negative);
-        self.decimal(s.magnitude / 100);
+        self.sign(h.negative);
+        self.decimal(h.magnitude / 100);
         self.byte(b'.');
-        self.byte(48 + (s.magnitude / 10 % 10) as u8);
-        self.byte(48 + (s.magnitude % 10) as u8);
+        self.byte(48 + (h.magnitude / 10 % 10) as u8);
+        self.byte(48 + (h.magnitude % 10) as u8);
     }
 }

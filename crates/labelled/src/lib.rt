@@ -4,12 +4,14 @@
 ghost use Rattle.std.specs.Prelude.{◌≡◌, ◌+◌, ◌≤◌, true, [], ◌∷◌, length, OnOk};
 ghost use Rattle.words.specs.Refusal.{fault_in, kept};
 ghost use Rattle.words.specs.Word.{all_in_width};
-ghost use Rattle.decimal.specs.Decimal.{ascii, written, signed_text, hundredths_text};
+ghost use Rattle.decimal.specs.Decimal.{ascii, signed_text, hundredths_text};
+ghost use Rattle.decimal.specs.Puts.{HasRoom, Puts};
 ghost use Rattle.labelled.specs.JobText.{line_with, lines_of, lens_job, text_of, text_room};
 ghost use Rattle.labelled.specs.Reading.{goes_on, number_from, nothing, after_line, scanned};
 ghost use Rattle.labelled.specs.Reading.{in_range, job_in_range, is_text_of, word_of, words_of};
 ghost use Rattle.labelled.specs.Calls.{lens_fault, words_fault, size_fault, write_fault, read_fault};
 
+use decimal::Text;
 use words::{Params, Refusal, Signed};
 
 // A lens job as its text has it: what its words mean, and its number.
@@ -34,49 +36,50 @@ const ROOM: usize = 160;
 
 // ---- writing
 
-fn put_line_end(out: &mut [u8], at: usize) -> usize
-    requires { at + 2 ≤ length out.old }
-    ensures { (out.new ≡ written at (ascii "\r\n") out.old) × (result ≡ at + 2) }
+fn put_line_end(text: &mut Text)
+    requires { HasRoom text.old (ascii "\r\n") }
+    ensures { Puts text.old text.new (ascii "\r\n") }
 {
-    decimal::put_bytes(out, at, b"\r\n")
+    text.bytes(b"\r\n");
 }
 
 // A label, a whole number and the line's end.
-fn put_whole(out: &mut [u8], at: usize, label: &[u8], s: Signed) -> usize
-    requires { at + length (line_with label.now (signed_text s)) ≤ length out.old }
-    ensures { (out.new ≡ written at (line_with label.now (signed_text s)) out.old)
-        × (result ≡ at + length (line_with label.now (signed_text s))) }
+#[tactic(auto, using(decimal::proofs::Puts::texts))]
+fn put_whole(text: &mut Text, label: &[u8], s: Signed)
+    requires { HasRoom text.old (line_with label.now (signed_text s)) }
+    ensures { Puts text.old text.new (line_with label.now (signed_text s)) }
 {
-    let p = decimal::put_bytes(out, at, label);
-    let q = decimal::put_signed(out, p, s);
-    put_line_end(out, q)
+    text.bytes(label);
+    text.signed(s);
+    put_line_end(text);
 }
 
 // A label, a number with two decimals and the line's end.
-fn put_fixed(out: &mut [u8], at: usize, label: &[u8], s: Signed) -> usize
-    requires { at + length (line_with label.now (hundredths_text s)) ≤ length out.old }
-    ensures { (out.new ≡ written at (line_with label.now (hundredths_text s)) out.old)
-        × (result ≡ at + length (line_with label.now (hundredths_text s))) }
+#[tactic(auto, using(decimal::proofs::Puts::texts))]
+fn put_fixed(text: &mut Text, label: &[u8], s: Signed)
+    requires { HasRoom text.old (line_with label.now (hundredths_text s)) }
+    ensures { Puts text.old text.new (line_with label.now (hundredths_text s)) }
 {
-    let p = decimal::put_bytes(out, at, label);
-    let q = decimal::put_hundredths(out, p, s);
-    put_line_end(out, q)
+    text.bytes(label);
+    text.hundredths(s);
+    put_line_end(text);
 }
 
-// The text of a job from the start of a lent buffer, and its length.
-pub fn put_job(out: &mut [u8], job: LensJob) -> usize
-    requires { text_room ≤ length out.old }
-    ensures { (out.new ≡ written 0 (lines_of job) out.old) × (result ≡ length (lines_of job)) × (result ≤ text_room) }
+// The text of a job.
+pub fn put_job(text: &mut Text, job: LensJob)
+    requires { text.old.len + text_room ≤ length text.old.buffer.now }
+    ensures puts { Puts text.old text.new (lines_of job) }
+    ensures short { length (lines_of job) ≤ text_room }
 {
     let number = Signed {
         negative: false,
         magnitude: job.number,
     };
-    let p = put_whole(out, 0, b"JOB=", number);
-    let q = put_fixed(out, p, b"SPH=", job.sphere);
-    let r = put_fixed(out, q, b"CYL=", job.cylinder);
-    let s = put_whole(out, r, b"AX=", job.axis);
-    put_fixed(out, s, b"CTHICK=", job.thickness)
+    put_whole(text, b"JOB=", number);
+    put_fixed(text, b"SPH=", job.sphere);
+    put_fixed(text, b"CYL=", job.cylinder);
+    put_whole(text, b"AX=", job.axis);
+    put_fixed(text, b"CTHICK=", job.thickness);
 }
 
 // A job by its number and four words, each in its signed reading.
@@ -190,7 +193,9 @@ fn is_text_of(k: u64, text: &[u8], job: LensJob) -> bool
         return false;
     }
     let mut room = [0u8; ROOM];
-    let n = put_job(&mut room, job);
+    let mut lines = Text::new(&mut room);
+    put_job(&mut lines, job);
+    let n = lines.len();
     text == &room[..n]
 }
 
@@ -249,7 +254,9 @@ pub fn text_size(p: Params, number: u64, words: &[u64], size: &mut [u64]) -> Res
     words::check_length(1, size.len())?;
     check_words(p.k, words)?;
     let mut room = [0u8; ROOM];
-    let n = put_job(&mut room, lens_job(p.k, number, words));
+    let mut text = Text::new(&mut room);
+    put_job(&mut text, lens_job(p.k, number, words));
+    let n = text.len();
     size[0] = n as u64;
     Ok(())
 }
@@ -264,7 +271,9 @@ pub fn write_text(p: Params, number: u64, words: &[u64], out: &mut [u8]) -> Resu
     check_lens(p)?;
     check_words(p.k, words)?;
     let mut room = [0u8; ROOM];
-    let n = put_job(&mut room, lens_job(p.k, number, words));
+    let mut text = Text::new(&mut room);
+    put_job(&mut text, lens_job(p.k, number, words));
+    let n = text.len();
     words::check_length(n, out.len())?;
     out.copy_from_slice(&room[..n]);
     Ok(())

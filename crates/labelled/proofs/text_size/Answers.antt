@@ -2,6 +2,7 @@
 use Rattle.std.proofs.Common.{◌≡◌, ℕ, [], ◌∷◌, length, ap, ◌∙◌, arith}
 use Rattle.words.proofs.Fill.{set_single}
 use Rattle.words.proofs.Refusals.{refusals, kept_passed}
+use Rattle.decimal.proofs.Puts.{start-len}
 use Rattle.labelled.specs.declared.LensJob.{LensJob}
 use Rattle.labelled.specs.JobText.{lines_of, text_of}
 use Rattle.labelled.specs.Calls.{size_fault}
@@ -11,5 +12,5 @@ pub returns : goal.returns
 unfolding size_fault text_of
 returns c =
     let z : 0 ≡ size_fault c.args.p c.args.words.now (length c.args.size.now) = grind (arith, refusals) in
-    let t = ap (λ (x : LensJob). length (lines_of x)) c.lens_job.ensures in
-    (z, set_single c.args.size.now _ c.in_ok-check_length.ensures.ok ∙ ap (λ (x : ℕ). x ∷ []) (c.put_job-n.ensures.1 ∙ t) ∙ kept_passed _ _ _ z)
+    let n = c.len-n.ensures ∙ start-len c.new-text.ensures.empty.0 c.put_job.ensures.puts ∙ ap (λ (x : LensJob). length (lines_of x)) c.lens_job.ensures in
+    (z, set_single c.args.size.now _ c.in_ok-check_length.ensures.ok ∙ ap (λ (x : ℕ). x ∷ []) n ∙ kept_passed _ _ _ z)

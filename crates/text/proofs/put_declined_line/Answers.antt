@@ -1,5 +1,4 @@
 -- `put_declined_line`: the line, part by part. Assumes nothing.
-use mathlib.Core.Path.{◌≡◌}
 use mathlib.Core.List.{List, ◌++◌}
 use Prim.Native.Nat.{ℕ}
 use Rattle.words.specs.Refusal.{number_of}
@@ -50,4 +49,4 @@ bytes-requires c =
 pub returns : goal.returns
 returns c =
     rw (declined-parts c.args.number (number_of c.args.refusal))
-        (puts-more (puts-more (puts-more c.decimal.ensures c.byte.ensures) (rw c.number.ensures at c.decimal-2.ensures)) c.bytes.ensures)
+    (puts-more (puts-more (puts-more c.decimal.ensures c.byte.ensures) (rw c.number.ensures at c.decimal-2.ensures)) c.bytes.ensures)

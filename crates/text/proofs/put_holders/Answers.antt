@@ -1,7 +1,6 @@
 -- `put_holders`: each turn puts the lowest holder that is left; what is left to put shrinks to nothing. Assumes nothing.
 use borrow.Author.Rules.{rules}
 use native.Mathlib.Omega.{arith}
-use mathlib.Core.Path.{◌≡◌, ap, ◌∙◌}
 use mathlib.Core.List.{List, [], ◌∷◌, ◌++◌}
 use Prim.Native.Nat.{ℕ, ◌+◌, ◌-◌, ◌/◌, ◌^◌, ◌≤◌, ◌<◌}
 use native.Mathlib.Nat.{pos_of_ne-zero}
@@ -105,8 +104,7 @@ loop-w-smaller c = omega (arith, holder-room (goal.at.loop-w-smaller c).At-loop-
 pub loop-w-preserved : goal.loop-w-preserved
 loop-w-preserved c =
     let e = (goal.at.loop-w-preserved c).Else-w-eq0 in
-    let l = (goal.at.Else-w-eq0 e).At-loop-w in
-    (
+    let l = (goal.at.Else-w-eq0 e).At-loop-w in (
       holder-room l,
       (pos_of_ne-zero e.if-w-eq0.false, others-lt l),
       rest-more (rest_text (lowest l) (holder l) (others l)) (left_comma e) c.byte-in-loop-w.ensures,

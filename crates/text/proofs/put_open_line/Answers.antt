@@ -1,5 +1,4 @@
 -- `put_open_line`: the line, part by part. Assumes nothing.
-use mathlib.Core.Path.{◌≡◌}
 use mathlib.Core.List.{List, ◌++◌}
 use Prim.Native.Nat.{ℕ}
 use Rattle.decimal.specs.Decimal.{ascii, decimal}
@@ -79,4 +78,4 @@ byte-requires-2 c = room-more (ascii "\n") (room6 (goal.at.byte-requires-2 c).St
 pub returns : goal.returns
 returns c =
     rw (open-parts c.args.number c.args.wrong c.args.lowest.now (readings c.args.k c.args.d c.args.words))
-        (puts-more (put5 (goal.at.returns c).After-put_words) c.byte-2.ensures)
+    (puts-more (put5 (goal.at.returns c).After-put_words) c.byte-2.ensures)

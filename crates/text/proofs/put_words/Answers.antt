@@ -2,7 +2,7 @@
 use native.Mathlib.Omega.{arith}
 use mathlib.Core.Path.{◌≡◌, ap, ◌∙◌, subst}
 use mathlib.Core.List.{List, [], ◌∷◌, ◌++◌}
-use Prim.Native.Nat.{ℕ, suc, ◌+◌, ◌^◌, ◌≤◌, ◌<◌}
+use Prim.Native.Nat.{ℕ, suc, ◌^◌, ◌<◌}
 use native.Mathlib.Numerals.{add-one}
 use lib.ListN.{length, take, drop, get_or, length-drop, drop_of_length-le}
 use lib.Seq.{length-take-le, get_or-take}
@@ -97,10 +97,10 @@ pub loop-i-preserved : goal.loop-i-preserved
 loop-i-preserved c =
     let s = (goal.at.loop-i-preserved c).Start in
     rw (add-one c.loop-i.i)
-        (rest-more
-        (others s c.loop-i.i)
-        (next (goal.at.loop-i-preserved c).After-byte)
-        (rw c.read_signed-in-loop-i.ensures at c.signed-in-loop-i.ensures))
+    (rest-more
+    (others s c.loop-i.i)
+    (next (goal.at.loop-i-preserved c).After-byte)
+    (rw c.read_signed-in-loop-i.ensures at c.signed-in-loop-i.ensures))
 
 pub returns : goal.returns
 unfolding after_commas

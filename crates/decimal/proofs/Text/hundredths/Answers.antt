@@ -5,5 +5,5 @@ use Rattle.decimal.proofs.Text.hundredths.Goals as goal
 
 pub returns : goal.returns
 returns c =
-    rw (hundredths-parts c.args.s)
-        (puts-more (puts-more (puts-more (puts-more c.sign.ensures c.decimal.ensures) c.byte.ensures) c.byte-2.ensures) c.byte-3.ensures)
+    rw (hundredths-parts c.args.h)
+    (puts-more (puts-more (puts-more (puts-more c.sign.ensures c.decimal.ensures) c.byte.ensures) c.byte-2.ensures) c.byte-3.ensures)
