@@ -1,5 +1,5 @@
 -- Texts put one after another at the front of a lent buffer: together they are their concatenation, and fit if it does. Assumes nothing.
-use mathlib.Core.Path.{◌≡◌, refl, sym, ◌∙◌}
+use mathlib.Core.Path.{◌≡◌, refl, sym, ap, ◌∙◌}
 use mathlib.Core.List.{List, [], ◌++◌}
 use Prim.Native.Nat.{ℕ, ◌+◌, ◌≤◌}
 use native.Mathlib.Nat.{add-zero}
@@ -75,10 +75,16 @@ pub start-text : {a b : Text} {text room : List ℕ} {n : ℕ} → a.len ≡ 0 �
 start-text {a = a} {b = b} {text = text} e p h r = rw (h, r, p.buffer, e) (take-written a.buffer.now text b.len (start-len e p))
 
 -- in a buffer that is lent for it, where it is a line that has room
-pub start-line : {a b : Text} {old line : List ℕ} {n room : ℕ} → (a.len ≡ 0) × (a.buffer.now ≡ old) → Puts a b line → n ≡ b.len → length line ≤ room
-    → (b.buffer.now ≡ written 0 line old) × (n ≡ length line) × (n ≤ room)
-start-line {line = line} e p h l =
-    (p.buffer ∙ rw (e.0, e.1) refl, h ∙ start-len e.0 p, omega (arith, h, l, start-len e.0 p))
+pub start-room : (a : Text) {old : List ℕ} {n : ℕ} (text : List ℕ) → (a.len ≡ 0) × (a.buffer.now ≡ old) → length text ≤ n → n ≤ length old → HasRoom a text
+start-room a text e l h = omega (arith, l, h, e.0, ap length e.1)
+
+pub start-new : {a b : Text} {old new text line : List ℕ} → line ≡ text → (a.len ≡ 0) × (a.buffer.now ≡ old) → Puts a b text → new ≡ b.buffer.now
+    → new ≡ written 0 line old
+start-new e s p r = r ∙ p.buffer ∙ rw (s.0, s.1, e) refl
+
+pub start-line : {a b : Text} {old new text line : List ℕ} {n room : ℕ} → line ≡ text → (a.len ≡ 0) × (a.buffer.now ≡ old) → Puts a b text
+    → n ≡ b.len → new ≡ b.buffer.now → length text ≤ room → (new ≡ written 0 line old) × (n ≡ length line) × (n ≤ room)
+start-line e s p h r l = (start-new e s p r, omega (arith, h, start-len s.0 p, ap length e), omega (arith, h, l, start-len s.0 p))
 
 -- in place of goals about parts
 pub ruleset texts = (puts-none, room-front, room-more, puts-more)

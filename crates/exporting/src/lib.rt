@@ -8,6 +8,7 @@ ghost use Rattle.listing.specs.Pieces.{Accepts};
 ghost use Rattle.exporting.specs.Export.{export_at, export_fault, export_piece, export_pieces};
 
 use bundle::Bundle;
+use decimal::Text;
 use words::Refusal;
 
 // Accepts an input of the program: only books with d 4 have this text.
@@ -34,9 +35,15 @@ fn put_place(bundle: &Bundle, place: usize, out: &mut [u8]) -> usize
         Ok(_) => {
             let words = rows[0];
             let job = labelled::lens_job(bundle.heading.params.k, number, &words[..4]);
-            labelled::put_job(out, job)
+            let mut text = Text::new(out);
+            labelled::put_job(&mut text, job);
+            text.len()
         }
-        Err(refusal) => text::put_kept(out, 0, number, refusal),
+        Err(refusal) => {
+            let mut text = Text::new(out);
+            text::put_kept(&mut text, number, refusal);
+            text.len()
+        }
     }
 }
 
@@ -54,6 +61,10 @@ pub fn put_piece(
 {
     match accepted {
         Ok(bundle) => put_place(bundle, i, out),
-        Err(refusal) => text::put_refused(out, 0, *refusal),
+        Err(refusal) => {
+            let mut text = Text::new(out);
+            text::put_refused(&mut text, *refusal);
+            text.len()
+        }
     }
 }

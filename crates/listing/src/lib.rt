@@ -9,6 +9,7 @@ ghost use Rattle.listing.specs.Listing.{line_of, line_fault, input_fault};
 ghost use Rattle.listing.specs.Pieces.{piece, pieces_in, Accepts};
 
 use bundle::Bundle;
+use decimal::Text;
 use words::Refusal;
 
 // The most bytes of an input: the definition's most_input.
@@ -37,9 +38,15 @@ pub fn put_line(bundle: &Bundle, place: usize, out: &mut [u8]) -> usize
                 wrong,
                 &mut lowest,
             );
-            text::put_open_line(out, 0, number, wrong, &lowest, p.k, p.d, rows[0])
+            let mut text = Text::new(out);
+            text::put_open_line(&mut text, number, wrong, &lowest, p.k, p.d, rows[0]);
+            text.len()
         }
-        Err(refusal) => text::put_declined_line(out, 0, number, refusal),
+        Err(refusal) => {
+            let mut text = Text::new(out);
+            text::put_declined_line(&mut text, number, refusal);
+            text.len()
+        }
     }
 }
 
@@ -121,7 +128,9 @@ impl<'a> Printer<'a> {
         match &self.accepted {
             Ok(bundle) => {
                 if i == 0 {
-                    return Some(text::put_head(line, 0));
+                    let mut text = Text::new(line);
+                    text::put_head(&mut text);
+                    return Some(text.len());
                 }
                 if bundle.heading.jobs < i {
                     return None;
@@ -130,7 +139,9 @@ impl<'a> Printer<'a> {
             }
             Err(refusal) => {
                 if i == 0 {
-                    return Some(text::put_refused(line, 0, *refusal));
+                    let mut text = Text::new(line);
+                    text::put_refused(&mut text, *refusal);
+                    return Some(text.len());
                 }
                 None
             }

@@ -20,6 +20,7 @@ ghost use Rattle.mending.specs.Progress.{mended_to, output_at};
 ghost use Rattle.mending.specs.Report.{changes_at, report_piece, report_pieces};
 
 use bundle::Bundle;
+use decimal::Text;
 use records::Heading;
 use words::Refusal;
 
@@ -140,8 +141,16 @@ fn put_place(bundle: &Bundle, place: usize, out: &mut [u8], text: &mut [u8]) -> 
 {
     let number = fetch::job_number(bundle, place);
     match mend_place(bundle, place, out) {
-        Ok(wrong) => text::put_changes(text, 0, number, wrong),
-        Err(refusal) => text::put_kept(text, 0, number, refusal),
+        Ok(wrong) => {
+            let mut lines = Text::new(text);
+            text::put_changes(&mut lines, number, wrong);
+            lines.len()
+        }
+        Err(refusal) => {
+            let mut line = Text::new(text);
+            text::put_kept(&mut line, number, refusal);
+            line.len()
+        }
     }
 }
 
@@ -162,6 +171,10 @@ pub fn put_piece(
 {
     match accepted {
         Ok(bundle) => put_place(bundle, i, out, text),
-        Err(refusal) => text::put_refused(text, 0, *refusal),
+        Err(refusal) => {
+            let mut line = Text::new(text);
+            text::put_refused(&mut line, *refusal);
+            line.len()
+        }
     }
 }

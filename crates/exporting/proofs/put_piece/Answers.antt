@@ -10,8 +10,8 @@ use Rattle.words.proofs.Refusals.{number-some}
 use Rattle.records.specs.declared.Heading.{Heading}
 use Rattle.bundle.specs.declared.Bundle.{Bundle}
 use Rattle.decimal.specs.Decimal.{written}
-use Rattle.decimal.proofs.Written.{wrote-line}
-use Rattle.text.specs.Text.{refused_line}
+use Rattle.decimal.proofs.Puts.{start-room, start-line}
+use Rattle.text.specs.Text.{report_room, refused_line}
 use Rattle.text.proofs.Lines.{number-le, refused-length}
 use Rattle.listing.proofs.Input.{fault-refused, fault-accepted, heading-accepted}
 use Rattle.exporting.specs.Export.{export_at, export_fault, export_piece}
@@ -28,9 +28,15 @@ returns-in-Err c =
     let s = (goal.at.returns-in-Err c).Start in
     let r = c.in-Err.refusal in
     let n = number_of r in
-    wrote-line s.args.out.now _ (export_piece (bs s) s.args.i) (refused_line n) c.put_refused.result
+    start-line
     (piece-refused (bs s) s.args.i n (fault-refused (export_fault (bs s)) (bs s) s.args.accepted.now s.requires.0 r c.in-Err.is) (number-some r))
-    c.put_refused.ensures (omega (arith, refused-length n (omega (arith, number-le r))))
+    c.new-text.ensures.empty c.put_refused.ensures c.len.ensures (search rules) (omega (arith, refused-length n (omega (arith, number-le r))))
+
+pub put_refused-requires : goal.put_refused-requires
+put_refused-requires c =
+    let r = c.in-Err.refusal in
+    start-room c.new-text.result {n = report_room} (refused_line (number_of r)) c.new-text.ensures.empty
+    (omega (arith, refused-length (number_of r) (omega (arith, number-le r)))) c.requires.2
 
 -- an input that is accepted
 abbrev bundle : In-Ok → Bundle

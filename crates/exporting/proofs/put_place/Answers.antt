@@ -13,7 +13,7 @@ use Rattle.polynomial.specs.Rows.{Rows}
 use Rattle.polynomial.proofs.Shape.{shaped_row}
 use Rattle.rounds.proofs.Rows.{zero-shaped}
 use Rattle.decimal.specs.Decimal.{written}
-use Rattle.decimal.proofs.Written.{wrote-line}
+use Rattle.decimal.proofs.Puts.{start-room, start-line}
 use Rattle.text.specs.Text.{kept_line}
 use Rattle.text.proofs.Lines.{number-le, kept-length}
 use Rattle.bundle.proofs.Bundles.{bundle-ok, ranges-of}
@@ -56,10 +56,16 @@ returns-in-Err c =
     let s = (goal.at.After-place_opening a).Start in
     let b = bundle s in
     let n = number_of c.in-Err.refusal in
-    wrote-line s.args.out.now _ (export_at (bs s) s.args.place) (kept_line (number a) n) c.put_kept.result
+    start-line
     (export-kept (bs s) s.args.place b.heading b.headed (number a) a.job_number-number.ensures n 0 (rows a)
     c.in-Err.ensures.opening c.in-Err.ensures.wrong (number-some c.in-Err.refusal))
-    c.put_kept.ensures (kept-length (number a) n (omega arith) (omega (arith, number-le c.in-Err.refusal)))
+    c.new-text-in-Err.ensures.empty c.put_kept.ensures c.len-in-Err.ensures (search rules) (kept-length (number a) n (omega arith) (omega (arith, number-le c.in-Err.refusal)))
+
+pub put_kept-requires : goal.put_kept-requires
+put_kept-requires c =
+    let number = c.job_number-number.result in
+    let n = number_of c.in-Err.refusal in
+    start-room c.new-text-in-Err.result (kept_line number n) c.new-text-in-Err.ensures.empty (kept-length number n (omega arith) (omega (arith, number-le c.in-Err.refusal))) c.requires.2
 
 pub slice_bounds-words-end : goal.slice_bounds-words-end
 slice_bounds-words-end c = omega (arith, row-length (goal.at.slice_bounds-words-end c).After-place_opening)
@@ -84,7 +90,7 @@ lens_job-job-requires c =
     )
 
 pub put_job-requires : goal.put_job-requires
-put_job-requires c = omega (arith, c.requires.2)
+put_job-requires c = omega (arith, c.requires.2, c.new-text.ensures.empty.0, ap length c.new-text.ensures.empty.1)
 
 -- the text of its words
 opened-text : (c : After-lens_job-job) →
@@ -105,6 +111,4 @@ pub returns-in-Ok : goal.returns-in-Ok
 returns-in-Ok c =
     let p = (goal.at.returns-in-Ok c).After-put_job in
     let j = (goal.at.After-put_job p).After-lens_job-job in
-    let e = sym (opened-text j) in
-    let r = p.put_job.ensures in
-    (r.0 ∙ ap (λ (t : List ℕ). written 0 t j.args.out.now) e, r.1 ∙ ap length e, omega (arith, r.2))
+    start-line (opened-text j) p.new-text.ensures.empty p.put_job.ensures.puts c.len.ensures (search rules) (omega (arith, p.put_job.ensures.short))

@@ -11,8 +11,8 @@ use Rattle.polynomial.specs.Rows.{Rows, coefs}
 use Rattle.codewords.specs.Codeword.{Polynomial, positions}
 use Rattle.codewords.proofs.Positions.{positions-length, positions-bytes}
 use Rattle.rounds.proofs.Rows.{zero-shaped}
-use Rattle.text.specs.Text.{open_line, declined_line, readings}
-use Rattle.decimal.proofs.Written.{wrote-line}
+use Rattle.text.specs.Text.{line_room, open_line, declined_line, readings}
+use Rattle.decimal.proofs.Puts.{start-room, start-line}
 use Rattle.text.proofs.Lines.{number-le, open-length, declined-length}
 use Rattle.bundle.proofs.Bundles.{bundle-ok, ranges-of}
 use Rattle.bundle.proofs.Headings.{Ranges}
@@ -22,7 +22,7 @@ use Rattle.archive.proofs.Loaded.{arrays, askable}
 use Rattle.listing.specs.Listing.{line_of}
 use Rattle.listing.proofs.Lines.{declined-line, narrow, set_is, open-line}
 use Rattle.listing.proofs.put_line.Goals as goal
-use Rattle.listing.proofs.put_line.Goals.{After-lowest_bits, After-place_opening, Start}
+use Rattle.listing.proofs.put_line.Goals.{After-lowest_bits, After-place_opening, In-Err, Start}
 
 abbrev bundle : Start → Bundle
 bundle s = s.args.bundle.now
@@ -48,17 +48,26 @@ known s = ranges-of (bs s) (bundle-ok (bs s) (bundle s).sound) (bundle s).headin
 pub place_opening-requires : goal.place_opening-requires
 place_opening-requires c = (c.requires.0, c.load_holders-holders.ensures, search rules, zero-shaped)
 
+declined-fits : (c : In-Err) → length (declined_line (number (goal.at.In-Err c).After-place_opening) (number_of c.in-Err.refusal)) ≤ line_room
+declined-fits c =
+    declined-length (number (goal.at.In-Err c).After-place_opening) (number_of c.in-Err.refusal) (omega arith) (omega (arith, number-le c.in-Err.refusal))
+
 pub returns-in-Err : goal.returns-in-Err
 returns-in-Err c =
     let a = (goal.at.returns-in-Err c).After-place_opening in
     let s = (goal.at.After-place_opening a).Start in
     let b = bundle s in
     let n = number_of c.in-Err.refusal in
-    wrote-line s.args.out.now _ (line_of (bs s) s.args.place) (declined_line (number a) n)
-    c.put_declined_line.result
+    start-line
     (declined-line (bs s) s.args.place b.heading b.headed (number a) a.job_number-number.ensures n 0 (rows a)
     c.in-Err.ensures.opening c.in-Err.ensures.wrong (number-some c.in-Err.refusal))
-    c.put_declined_line.ensures (declined-length (number a) n (omega arith) (omega (arith, number-le c.in-Err.refusal)))
+    c.new-text-in-Err.ensures.empty c.put_declined_line.ensures c.len-in-Err.ensures (search rules) (declined-fits (goal.at.returns-in-Err c).In-Err)
+
+pub put_declined_line-requires : goal.put_declined_line-requires
+put_declined_line-requires c =
+    let a = (goal.at.put_declined_line-requires c).In-Err in
+    start-room c.new-text-in-Err.result (declined_line (number (goal.at.In-Err a).After-place_opening) (number_of a.in-Err.refusal)) c.new-text-in-Err.ensures.empty
+    (declined-fits a) c.requires.1
 
 pub lowest_bits-requires : goal.lowest_bits-requires
 lowest_bits-requires c =
@@ -84,6 +93,24 @@ found : (f : After-lowest_bits) →
     let s = (goal.at.After-lowest_bits f).Start in let p = (bundle s).heading.params in lowest f ≡ positions p.k p.d (poly (goal.at.After-lowest_bits f).After-place_opening) (shares_at (bs s) s.args.place)
 found f = rw f.place_opening.ensures.shares at f.lowest_bits.ensures
 
+-- the line, which fits
+abbrev line : After-lowest_bits → List ℕ
+line f =
+    let a = (goal.at.After-lowest_bits f).After-place_opening in
+    let p = (bundle (goal.at.After-place_opening a).Start).heading.params in
+    open_line (number a) f.in-Ok.wrong (lowest f) (readings p.k p.d (get_or (rows a) 0 []))
+
+open-fits : (f : After-lowest_bits) → length (line f) ≤ line_room
+open-fits f =
+    let a = (goal.at.After-lowest_bits f).After-place_opening in
+    let s = (goal.at.After-place_opening a).Start in
+    let p = (bundle s).heading.params in
+    let k = (known s).book in
+    let row = get_or (rows a) 0 [] in
+    let m : length (take p.d row) ≤ 6 = rw (length-take p.d row) (omega (arith, k.d-high)) in
+    open-length (number a) f.in-Ok.wrong (lowest f) p.k (take p.d row) (omega arith)
+    (rw (found f) (positions-bytes p.k p.d (poly a) (shares_at (bs s) s.args.place))) k.k-high m
+
 pub put_open_line-requires : goal.put_open_line-requires
 put_open_line-requires c =
     let f = (goal.at.put_open_line-requires c).After-lowest_bits in
@@ -97,7 +124,7 @@ put_open_line-requires c =
       narrow (bs s) s.args.place b.heading b.headed (number a) a.job_number-number.ensures 0 f.in-Ok.wrong (rows a)
           f.in-Ok.ensures.opening f.in-Ok.ensures.wrong refl a.place_opening.ensures.shaped,
       ap length (found f) ∙ positions-length p.k p.d (poly a) (shares_at (bs s) s.args.place),
-      s.requires.1,
+      start-room c.new-text.result (line f) c.new-text.ensures.empty (open-fits f) s.requires.1,
     )
 
 pub returns-in-Ok : goal.returns-in-Ok
@@ -106,15 +133,7 @@ returns-in-Ok c =
     let a = (goal.at.After-lowest_bits f).After-place_opening in
     let s = (goal.at.After-place_opening a).Start in
     let b = bundle s in
-    let p = b.heading.params in
-    let k = (known s).book in
-    let w = f.in-Ok.wrong in
-    let row = get_or (rows a) 0 [] in
-    let m : length (take p.d row) ≤ 6 = rw (length-take p.d row) (omega (arith, k.d-high)) in
-    wrote-line s.args.out.now _ (line_of (bs s) s.args.place) (open_line (number a) w (lowest f) (readings p.k p.d row))
-    c.put_open_line.result
-    (open-line (bs s) s.args.place b.heading b.headed (number a) a.job_number-number.ensures 0 w (rows a)
+    start-line
+    (open-line (bs s) s.args.place b.heading b.headed (number a) a.job_number-number.ensures 0 f.in-Ok.wrong (rows a)
     f.in-Ok.ensures.opening f.in-Ok.ensures.wrong refl a.place_opening.ensures.shaped (lowest f) (found f))
-    c.put_open_line.ensures
-    (open-length (number a) w (lowest f) p.k (take p.d row) (omega arith)
-    (rw (found f) (positions-bytes p.k p.d (poly a) (shares_at (bs s) s.args.place))) k.k-high m)
+    c.new-text.ensures.empty c.put_open_line.ensures c.len.ensures (search rules) (open-fits f)

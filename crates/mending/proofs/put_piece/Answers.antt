@@ -10,8 +10,8 @@ use Rattle.words.proofs.Refusals.{number-some}
 use Rattle.records.specs.declared.Heading.{Heading}
 use Rattle.bundle.specs.declared.Bundle.{Bundle}
 use Rattle.decimal.specs.Decimal.{written}
-use Rattle.decimal.proofs.Written.{wrote-line}
-use Rattle.text.specs.Text.{refused_line}
+use Rattle.decimal.proofs.Puts.{start-room, start-line}
+use Rattle.text.specs.Text.{report_room, refused_line}
 use Rattle.text.proofs.Lines.{number-le, refused-length}
 use Rattle.listing.specs.Listing.{input_fault}
 use Rattle.listing.proofs.Input.{fault-refused, fault-accepted, heading-accepted}
@@ -35,9 +35,15 @@ returns-in-Err c =
     record {
       out = s.requires.2 ∙ output-refused (bs s) i n ∙ sym (output-refused (bs s) (i + 1) n);
       text =
-          wrote-line s.args.text.now _ (report_piece (bs s) i) (refused_line (number_of r)) p.result (piece-refused (bs s) i n ∙ ap refused_line f)
-          p.ensures (omega (arith, refused-length (number_of r) (omega (arith, number-le r))));
+          start-line (piece-refused (bs s) i n ∙ ap refused_line f) c.new-line.ensures.empty p.ensures c.len.ensures (search rules)
+          (omega (arith, refused-length (number_of r) (omega (arith, number-le r))));
     }
+
+pub put_refused-requires : goal.put_refused-requires
+put_refused-requires c =
+    let r = c.in-Err.refusal in
+    start-room c.new-line.result {n = report_room} (refused_line (number_of r)) c.new-line.ensures.empty
+    (omega (arith, refused-length (number_of r) (omega (arith, number-le r)))) c.requires.3
 
 -- an input that is accepted
 abbrev bundle : In-Ok → Bundle
