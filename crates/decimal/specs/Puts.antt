@@ -1,4 +1,4 @@
--- Texts put one after another at the front of a lent buffer. Assumes nothing.
+-- Internal: texts put one after another at the front of a lent buffer. Assumes nothing.
 use Rattle.std.specs.Prelude.{◌≡◌, List, ℕ, ◌+◌, ◌≤◌, length}
 use Rattle.decimal.specs.Decimal.{written}
 use Rattle.decimal.specs.declared.Text.{Text}
