@@ -41,7 +41,7 @@ fn put_place(bundle: &Bundle, place: usize, out: &mut [u8]) -> usize
         }
         Err(refusal) => {
             let mut text = Text::new(out);
-            text::put_kept(&mut text, number, refusal);
+            text::put_kept(&mut text, number, refusal.number());
             text.len()
         }
     }
@@ -63,7 +63,7 @@ pub fn put_piece(
         Ok(bundle) => put_place(bundle, i, out),
         Err(refusal) => {
             let mut text = Text::new(out);
-            text::put_refused(&mut text, *refusal);
+            text::put_refused(&mut text, refusal.number());
             text.len()
         }
     }

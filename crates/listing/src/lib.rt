@@ -44,7 +44,7 @@ pub fn put_line(bundle: &Bundle, place: usize, out: &mut [u8]) -> usize
         }
         Err(refusal) => {
             let mut text = Text::new(out);
-            text::put_declined_line(&mut text, number, refusal);
+            text::put_declined_line(&mut text, number, refusal.number());
             text.len()
         }
     }
@@ -140,7 +140,7 @@ impl<'a> Printer<'a> {
             Err(refusal) => {
                 if i == 0 {
                     let mut text = Text::new(line);
-                    text::put_refused(&mut text, *refusal);
+                    text::put_refused(&mut text, refusal.number());
                     return Some(text.len());
                 }
                 None

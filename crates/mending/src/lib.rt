@@ -148,7 +148,7 @@ fn put_place(bundle: &Bundle, place: usize, out: &mut [u8], text: &mut [u8]) -> 
         }
         Err(refusal) => {
             let mut line = Text::new(text);
-            text::put_kept(&mut line, number, refusal);
+            text::put_kept(&mut line, number, refusal.number());
             line.len()
         }
     }
@@ -173,7 +173,7 @@ pub fn put_piece(
         Ok(bundle) => put_place(bundle, i, out, text),
         Err(refusal) => {
             let mut line = Text::new(text);
-            text::put_refused(&mut line, *refusal);
+            text::put_refused(&mut line, refusal.number());
             line.len()
         }
     }

@@ -2,7 +2,6 @@
 #![tactic(auto)]
 
 ghost use Rattle.std.specs.Prelude.{◌≡◌, true, ◌+◌, ◌≤◌, length, take};
-ghost use Rattle.words.specs.Refusal.{number_of};
 ghost use Rattle.words.specs.Word.{all_in_width};
 ghost use Rattle.decimal.specs.Puts.{HasRoom, Puts};
 ghost use Rattle.text.specs.Text.{holder_text, holders_text, words_text, readings};
@@ -10,7 +9,6 @@ ghost use Rattle.text.specs.Text.{line_room, head_line, refused_line, open_line,
 ghost use Rattle.text.specs.Text.{holders, report_room, changed_line, changed_lines, kept_line};
 
 use decimal::Text;
-use words::Refusal;
 
 // Every line fits into so many bytes: the definition's line_room.
 pub const LINE: usize = 1024;
@@ -73,14 +71,14 @@ pub fn put_head(text: &mut Text)
     text.bytes(b"job state wrong words\n");
 }
 
-// The one line of a declined bundle.
+// The one line of a declined bundle. Here and below the number of a refusal may be any byte: the contract has promised so from the first.
 #[tactic(auto, using(decimal::proofs::Puts::texts), unfolding(crate::specs::Text::refused_line))]
-pub fn put_refused(text: &mut Text, refusal: Refusal)
-    requires { HasRoom text.old (refused_line (number_of refusal)) }
-    ensures { Puts text.old text.new (refused_line (number_of refusal)) }
+pub fn put_refused(text: &mut Text, n: u8)
+    requires { HasRoom text.old (refused_line n) }
+    ensures { Puts text.old text.new (refused_line n) }
 {
     text.bytes(b"refused ");
-    text.decimal(refusal.number() as u64);
+    text.decimal(u64::from(n));
     text.byte(b'\n');
 }
 
@@ -107,13 +105,13 @@ pub fn put_open_line(
 }
 
 // The line of a job that did not open, with the number that says why.
-pub fn put_declined_line(text: &mut Text, number: u64, refusal: Refusal)
-    requires { HasRoom text.old (declined_line number (number_of refusal)) }
-    ensures { Puts text.old text.new (declined_line number (number_of refusal)) }
+pub fn put_declined_line(text: &mut Text, number: u64, state: u8)
+    requires { HasRoom text.old (declined_line number state) }
+    ensures { Puts text.old text.new (declined_line number state) }
 {
     text.decimal(number);
     text.byte(b' ');
-    text.decimal(refusal.number() as u64);
+    text.decimal(u64::from(state));
     text.bytes(b" - -\n");
 }
 
@@ -146,11 +144,11 @@ pub fn put_changes(text: &mut Text, number: u64, set: u64)
 
 // The line of a job that keeps its bytes, with the number that says why.
 #[tactic(auto, using(decimal::proofs::Puts::texts), unfolding(crate::specs::Text::kept_line))]
-pub fn put_kept(text: &mut Text, number: u64, refusal: Refusal)
-    requires { HasRoom text.old (kept_line number (number_of refusal)) }
-    ensures { Puts text.old text.new (kept_line number (number_of refusal)) }
+pub fn put_kept(text: &mut Text, number: u64, n: u8)
+    requires { HasRoom text.old (kept_line number n) }
+    ensures { Puts text.old text.new (kept_line number n) }
 {
     text.decimal(number);
     text.byte(b' ');
-    put_refused(text, refusal);
+    put_refused(text, n);
 }

@@ -30,13 +30,13 @@ returns-in-Err c =
     let n = number_of r in
     start-line
     (piece-refused (bs s) s.args.i n (fault-refused (export_fault (bs s)) (bs s) s.args.accepted.now s.requires.0 r c.in-Err.is) (number-some r))
-    c.new-text.ensures.empty c.put_refused.ensures c.len.ensures (search rules) (omega (arith, refused-length n (omega (arith, number-le r))))
+    c.new-text.ensures.empty (rw c.number.ensures at c.put_refused.ensures) c.len.ensures (search rules) (omega (arith, refused-length n (omega (arith, number-le r))))
 
 pub put_refused-requires : goal.put_refused-requires
 put_refused-requires c =
     let r = c.in-Err.refusal in
-    start-room c.new-text.result {n = report_room} (refused_line (number_of r)) c.new-text.ensures.empty
-    (omega (arith, refused-length (number_of r) (omega (arith, number-le r)))) c.requires.2
+    rw c.number.ensures (start-room c.new-text.result {n = report_room} (refused_line (number_of r)) c.new-text.ensures.empty
+    (omega (arith, refused-length (number_of r) (omega (arith, number-le r)))) c.requires.2)
 
 -- an input that is accepted
 abbrev bundle : In-Ok → Bundle

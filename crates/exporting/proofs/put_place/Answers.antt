@@ -59,13 +59,13 @@ returns-in-Err c =
     start-line
     (export-kept (bs s) s.args.place b.heading b.headed (number a) a.job_number-number.ensures n 0 (rows a)
     c.in-Err.ensures.opening c.in-Err.ensures.wrong (number-some c.in-Err.refusal))
-    c.new-text-in-Err.ensures.empty c.put_kept.ensures c.len-in-Err.ensures (search rules) (kept-length (number a) n (omega arith) (omega (arith, number-le c.in-Err.refusal)))
+    c.new-text-in-Err.ensures.empty (rw c.number.ensures at c.put_kept.ensures) c.len-in-Err.ensures (search rules) (kept-length (number a) n (omega arith) (omega (arith, number-le c.in-Err.refusal)))
 
 pub put_kept-requires : goal.put_kept-requires
 put_kept-requires c =
     let number = c.job_number-number.result in
     let n = number_of c.in-Err.refusal in
-    start-room c.new-text-in-Err.result (kept_line number n) c.new-text-in-Err.ensures.empty (kept-length number n (omega arith) (omega (arith, number-le c.in-Err.refusal))) c.requires.2
+    rw c.number.ensures (start-room c.new-text-in-Err.result (kept_line number n) c.new-text-in-Err.ensures.empty (kept-length number n (omega arith) (omega (arith, number-le c.in-Err.refusal))) c.requires.2)
 
 pub slice_bounds-words-end : goal.slice_bounds-words-end
 slice_bounds-words-end c = omega (arith, row-length (goal.at.slice_bounds-words-end c).After-place_opening)

@@ -61,13 +61,13 @@ returns-in-Err c =
     start-line
     (declined-line (bs s) s.args.place b.heading b.headed (number a) a.job_number-number.ensures n 0 (rows a)
     c.in-Err.ensures.opening c.in-Err.ensures.wrong (number-some c.in-Err.refusal))
-    c.new-text-in-Err.ensures.empty c.put_declined_line.ensures c.len-in-Err.ensures (search rules) (declined-fits (goal.at.returns-in-Err c).In-Err)
+    c.new-text-in-Err.ensures.empty (rw c.number.ensures at c.put_declined_line.ensures) c.len-in-Err.ensures (search rules) (declined-fits (goal.at.returns-in-Err c).In-Err)
 
 pub put_declined_line-requires : goal.put_declined_line-requires
 put_declined_line-requires c =
     let a = (goal.at.put_declined_line-requires c).In-Err in
-    start-room c.new-text-in-Err.result (declined_line (number (goal.at.In-Err a).After-place_opening) (number_of a.in-Err.refusal)) c.new-text-in-Err.ensures.empty
-    (declined-fits a) c.requires.1
+    rw c.number.ensures (start-room c.new-text-in-Err.result (declined_line (number (goal.at.In-Err a).After-place_opening) (number_of a.in-Err.refusal)) c.new-text-in-Err.ensures.empty
+    (declined-fits a) c.requires.1)
 
 pub lowest_bits-requires : goal.lowest_bits-requires
 lowest_bits-requires c =

@@ -35,15 +35,15 @@ returns-in-Err c =
     record {
       out = s.requires.2 ∙ output-refused (bs s) i n ∙ sym (output-refused (bs s) (i + 1) n);
       text =
-          start-line (piece-refused (bs s) i n ∙ ap refused_line f) c.new-line.ensures.empty p.ensures c.len.ensures (search rules)
+          start-line (piece-refused (bs s) i n ∙ ap refused_line f) c.new-line.ensures.empty (rw c.number.ensures at p.ensures) c.len.ensures (search rules)
           (omega (arith, refused-length (number_of r) (omega (arith, number-le r))));
     }
 
 pub put_refused-requires : goal.put_refused-requires
 put_refused-requires c =
     let r = c.in-Err.refusal in
-    start-room c.new-line.result {n = report_room} (refused_line (number_of r)) c.new-line.ensures.empty
-    (omega (arith, refused-length (number_of r) (omega (arith, number-le r)))) c.requires.3
+    rw c.number.ensures (start-room c.new-line.result {n = report_room} (refused_line (number_of r)) c.new-line.ensures.empty
+    (omega (arith, refused-length (number_of r) (omega (arith, number-le r)))) c.requires.3)
 
 -- an input that is accepted
 abbrev bundle : In-Ok → Bundle

@@ -24,7 +24,7 @@ returns-in-Err c =
       text =
           start-line
           (changes-kept bs c.args.place number n c.job_number-number.ensures c.in-Err.ensures.fault (number-some c.in-Err.refusal))
-          c.new-line.ensures.empty p.ensures c.len-in-Err.ensures (search rules) (kept-length number n (omega arith) (omega (arith, number-le c.in-Err.refusal)));
+          c.new-line.ensures.empty (rw c.number.ensures at p.ensures) c.len-in-Err.ensures (search rules) (kept-length number n (omega arith) (omega (arith, number-le c.in-Err.refusal)));
     }
 
 pub returns-in-Ok : goal.returns-in-Ok
@@ -47,7 +47,7 @@ pub put_kept-requires : goal.put_kept-requires
 put_kept-requires c =
     let number = c.job_number-number.result in
     let n = number_of c.in-Err.refusal in
-    start-room c.new-line.result (kept_line number n) c.new-line.ensures.empty (kept-length number n (omega arith) (omega (arith, number-le c.in-Err.refusal))) c.requires.3
+    rw c.number.ensures (start-room c.new-line.result (kept_line number n) c.new-line.ensures.empty (kept-length number n (omega arith) (omega (arith, number-le c.in-Err.refusal))) c.requires.3)
 
 pub put_changes-requires : goal.put_changes-requires
 put_changes-requires c =

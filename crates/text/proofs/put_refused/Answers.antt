@@ -5,4 +5,4 @@ use Rattle.text.proofs.put_refused.Goals as goal
 
 pub returns : goal.returns
 unfolding refused_line
-returns c = puts-more (puts-more c.bytes.ensures (rw c.number.ensures at c.decimal.ensures)) c.byte.ensures
+returns c = puts-more (puts-more c.bytes.ensures (rw c.from.ensures at c.decimal.ensures)) c.byte.ensures

@@ -54,9 +54,10 @@ returns-then-i-eq0-2 c =
     let e = c.in-Err.refusal in
     let z = c.if-i-eq0-2.true in
     let l = piece-refused p.bytes.now p.accepted p.own e c.in-Err.is p.next z in
+    let put = rw c.number.ensures at c.put_refused.ensures in
     let w = start-line {room = line_room} l c.new-text-then-i-eq0-2.ensures.empty
-    c.put_refused.ensures c.len-then-i-eq0-2.ensures refl (refused-length (number_of e) (omega (arith, number-le e))) in
-    record { line = start-new l c.new-text-then-i-eq0-2.ensures.empty c.put_refused.ensures (search rules); size = (w.1, w.2, omega (arith, z, pieces-refused p.bytes.now p.accepted p.own e c.in-Err.is)) }
+    put c.len-then-i-eq0-2.ensures refl (refused-length (number_of e) (omega (arith, number-le e))) in
+    record { line = start-new l c.new-text-then-i-eq0-2.ensures.empty put (search rules); size = (w.1, w.2, omega (arith, z, pieces-refused p.bytes.now p.accepted p.own e c.in-Err.is)) }
 
 pub returns-else-i-eq0-2 : goal.returns-else-i-eq0-2
 returns-else-i-eq0-2 c =
@@ -70,4 +71,4 @@ put_head-requires c = start-room c.new-text.result {n = line_room} head_line c.n
 pub put_refused-requires : goal.put_refused-requires
 put_refused-requires c =
     let e = c.in-Err.refusal in
-    start-room c.new-text-then-i-eq0-2.result {n = line_room} (refused_line (number_of e)) c.new-text-then-i-eq0-2.ensures.empty (refused-length (number_of e) (omega (arith, number-le e))) c.requires
+    rw c.number.ensures (start-room c.new-text-then-i-eq0-2.result {n = line_room} (refused_line (number_of e)) c.new-text-then-i-eq0-2.ensures.empty (refused-length (number_of e) (omega (arith, number-le e))) c.requires)
