@@ -189,16 +189,24 @@ pub fn accept(bytes: &[u8]) -> Result<Bundle, Refusal>
     ensures bundle { IfOk result (λ b. b.bytes.now ≡ bytes.now) }
 {
     check_bundle(bytes)?;
-    let heading = records::heading_at(bytes, records::ORDER_SIZE);
-    let files = (bytes.len() - records::ORDER_SIZE) / records::file_size(heading);
-    Ok(Bundle {
-        bytes,
-        heading,
-        files,
-    })
+    Ok(Bundle::of(bytes))
 }
 
 impl<'a> Bundle<'a> {
+    // The bundle that bytes without a fault are.
+    pub fn of(bytes: &'a [u8]) -> Bundle<'a>
+        requires { bundle_fault bytes.now ≡ 0 }
+        ensures { result.bytes.now ≡ bytes.now }
+    {
+        let heading = records::heading_at(bytes, records::ORDER_SIZE);
+        let files = (bytes.len() - records::ORDER_SIZE) / records::file_size(heading);
+        Bundle {
+            bytes,
+            heading,
+            files,
+        }
+    }
+
     // The error bound: the order's one byte.
     pub fn allowance(&self) -> u64
         ensures { result ≡ allowance_of self.now.bytes.now }

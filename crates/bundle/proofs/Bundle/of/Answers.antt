@@ -1,4 +1,4 @@
--- `accept`: the bundle's fault; of a bundle that has none, its first heading and how many files fill the rest. Assumes nothing.
+-- `Bundle::of`: of bytes without a fault, the first heading and how many files fill the rest. Assumes nothing.
 use mathlib.Core.Path.{◌≡◌, sym, ap, ◌∙◌}
 use Prim.Native.Nat.{ℕ, ◌-◌, ◌/◌}
 use lib.ListN.{length}
@@ -8,22 +8,18 @@ use Rattle.bundle.specs.Bundle.{bundle_heading, files_in, files_of}
 use Rattle.bundle.proofs.Files.{size_low}
 use Rattle.bundle.specs.Acceptance.{BundleOk}
 use Rattle.bundle.proofs.Bundles.{bundle-ok, bundle-ranges, bundle-within}
-use Rattle.bundle.proofs.accept.Goals as goal
-use Rattle.bundle.proofs.accept.Goals.{After-file_size, In_ok-check_bundle}
-
--- past the test there is a bundle
-whole : (c : In_ok-check_bundle) → BundleOk c.args.bytes.now
-whole c = bundle-ok c.args.bytes.now (sym c.in_ok-check_bundle.ensures)
+use Rattle.bundle.proofs.Bundle.of.Goals as goal
+use Rattle.bundle.proofs.Bundle.of.Goals.{After-file_size}
 
 pub heading_at-heading-requires : goal.heading_at-heading-requires
-heading_at-heading-requires c = bundle-within c.args.bytes.now (whole c)
+heading_at-heading-requires c = bundle-within c.args.bytes.now (bundle-ok c.args.bytes.now c.requires)
 
 pub overflow_sub-files : goal.overflow_sub-files
-overflow_sub-files c = omega (arith, bundle-within c.args.bytes.now (whole (goal.at.overflow_sub-files c).In_ok-check_bundle))
+overflow_sub-files c = omega (arith, bundle-within c.args.bytes.now (bundle-ok c.args.bytes.now c.requires))
 
 pub file_size-requires : goal.file_size-requires
 file_size-requires c =
-    let r = bundle-ranges c.args.bytes.now (whole (goal.at.file_size-requires c).In_ok-check_bundle) in
+    let r = bundle-ranges c.args.bytes.now (bundle-ok c.args.bytes.now c.requires) in
     rw c.heading_at-heading.ensures (r.book.d-high, r.jobs_high)
 
 size_is : (c : After-file_size) → c.file_size.result ≡ file_size (bundle_heading c.args.bytes.now)
@@ -37,4 +33,4 @@ unfolding files_in
 files-are c = ap (λ (n : ℕ). (length c.args.bytes.now - 7) / n) (size_is c)
 
 pub invariant_of-result : goal.invariant_of-result
-invariant_of-result c = record { sound = sym c.in_ok-check_bundle.ensures; headed = c.heading_at-heading.ensures; counted = files-are c }
+invariant_of-result c = record { sound = c.requires; headed = c.heading_at-heading.ensures; counted = files-are c }
