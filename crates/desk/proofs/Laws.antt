@@ -5,14 +5,14 @@ use mathlib.Core.Logic.{inl, inr}
 use mathlib.Core.List.{List, [], ◌∷◌}
 use Prim.Native.Nat.{ℕ, zero, suc, ◌+◌, ◌≤◌, ◌<◌}
 use native.Mathlib.Omega.{arith}
-use lib.Dec.{leb, ltb}
+use lib.Dec.{leb, ltb, eqb}
 use lib.ListN.{length, get_or, set}
-use borrow.Author.Tests.{lt-ltb, le-ltb, le-leb, leb-true, ltb-true}
+use borrow.Author.Tests.{lt-ltb, le-ltb, le-leb, lt-leb, ne_eqb, leb-true, ltb-true}
 use Rattle.words.specs.Faults.{length_fault}
-use Rattle.words.specs.Refusal.{number_of, first, kept, PARAMETERS, DESK_CLOSED}
+use Rattle.words.specs.Refusal.{number_of, first, kept, PARAMETERS, LENGTH, DESK_CLOSED}
 use Rattle.words.specs.declared.Refusal.{Refusal}
 use Rattle.words.proofs.Faults.{clear-length}
-use Rattle.words.proofs.Refusals.{first-none, unless-held, unless-yes, unless-no, number-some}
+use Rattle.words.proofs.Refusals.{first-right, first-none, first_some, kept-none, kept-some, unless-held, unless-yes, unless-no, stop, number-some}
 use Rattle.codewords.specs.Opening.{Opening, declines, opens, fault_of, unless_fault, JobState}
 use Rattle.codewords.proofs.Opening.{unless-none, unless-some}
 use Rattle.bundle.specs.Bundle.{bundle_heading}
@@ -25,6 +25,10 @@ use Rattle.desk.specs.Lent.{record_of, lent_opening, record_into, lent_start_fau
 use Rattle.desk.specs.declared.Desk.{Desk}
 
 -- ---- an allowance, and a count
+
+pub allowance-high : (q : ℕ) → largest_allowance < q → allowance_fault q ≡ PARAMETERS
+unfolding allowance_fault
+allowance-high q h = unless-no (leb q largest_allowance) PARAMETERS (lt-leb q largest_allowance h)
 
 pub allowance-fits : (q : ℕ) → q ≤ largest_allowance → allowance_fault q ≡ 0
 unfolding allowance_fault
@@ -46,7 +50,23 @@ pub below-closed : (q c : ℕ) → closed_fault q c ≡ 0 → c < q
 unfolding closed_fault
 below-closed q c e = ltb-true c q (unless-held (ltb c q) DESK_CLOSED (omega arith) e)
 
+-- ---- one step
+
+pub step-shut : (q c f g : ℕ) → g ≡ first f (closed_fault q c) → (g ≡ 0 → ⊥) → c ≡ kept (first f (closed_fault q c)) c (c + 1)
+step-shut q c f g e y = sym (kept-some (first f (closed_fault q c)) c (c + 1) (λ x. y (e ∙ x)))
+
+pub step_through : (q c f g : ℕ) → g ≡ first f (closed_fault q c) → g ≡ 0 →
+    (c < q) × (0 ≡ first f (closed_fault q c)) × (c + 1 ≡ kept (first f (closed_fault q c)) c (c + 1))
+step_through q c f g e z =
+    let x = sym e ∙ z in
+    (below-closed q c (first-right f (closed_fault q c) x), sym x, sym (kept-none (first f (closed_fault q c)) c (c + 1) x))
+
 -- ---- an opening
+
+-- 1 ahead of all others
+pub desk-high : (q c a f : ℕ) → f ≡ allowance_fault q → (f ≡ 0 → ⊥) → desk_fault q c a ≡ f
+unfolding desk_fault
+desk-high q c a f e y = first_some (allowance_fault q) _ (λ x. y (e ∙ x)) ∙ sym e
 
 pub desk-fits : (q c a : ℕ) → allowance_fault q ≡ 0 → desk_fault q c a ≡ first a (closed_fault q c)
 unfolding desk_fault
@@ -126,9 +146,25 @@ pub lent-opens : (r bs : List ℕ) (p n w l : ℕ) → length r ≡ 2 → lent_o
 unfolding lent_opening
 lent-opens r bs p n w l e = unless-none (length_fault 2 (length r)) _ (clear-length 2 (length r) e)
 
+pub lent-declines : (r bs : List ℕ) (p n w l : ℕ) → (length r ≡ 2 → ⊥) → lent_opening r bs p n w l ≡ declines LENGTH
+unfolding lent_opening length_fault
+lent-declines r bs p n w l y =
+    ap (λ f. unless_fault f (desk_opening (get_or r 0 0) (get_or r 1 0) bs p n w l)) (unless-no (eqb (length r) 2) LENGTH (ne_eqb (length r) 2 y))
+
+pub start-length : (r : List ℕ) (q : ℕ) → (length r ≡ 2 → ⊥) → lent_start_fault r q ≡ LENGTH
+unfolding lent_start_fault length_fault
+start-length r q y = stop (eqb (length r) 2) LENGTH (allowance_fault q) (omega arith) (ne_eqb (length r) 2 y)
+
 pub start-judged : (r : List ℕ) (q : ℕ) → length r ≡ 2 → lent_start_fault r q ≡ allowance_fault q
 unfolding lent_start_fault
 start-judged r q e = first-none (length_fault 2 (length r)) (allowance_fault q) (clear-length 2 (length r) e)
+
+pub record-set : (r : List ℕ) (o : Opening) → length r ≡ 2 → set r 1 (count_after (get_or r 1 0) o) ≡ record_into r o
+record-set (a ∷ c ∷ []) (declines f) h = refl
+record-set (a ∷ c ∷ []) (opens q) h = refl
+record-set [] o h = absurd (omega (arith, h))
+record-set (a ∷ []) o h = absurd (omega (arith, h))
+record-set (a ∷ c ∷ x ∷ l) o h = absurd (omega (arith, h))
 
 pub start_set : (r : List ℕ) (q a c : ℕ) → length r ≡ 2 → a ≡ q → c ≡ 0 → set (set r 0 a) 1 c ≡ q ∷ 0 ∷ []
 start_set (x ∷ y ∷ []) q a c h e f = rw (e, f) refl

@@ -2,8 +2,8 @@
 // read it, make one call, and store what that gave.
 #![tactic(auto)]
 
-ghost use Rattle.std.specs.Prelude.{◌≡◌, [], ◌∷◌, ◌+◌, length, IfOk};
-ghost use Rattle.words.specs.Refusal.{fault_in, kept};
+ghost use Rattle.std.specs.Prelude.{◌≡◌, [], ◌∷◌, ◌+◌, length, IfOk, MatchResult};
+ghost use Rattle.words.specs.Refusal.{fault_in, first, kept};
 ghost use Rattle.codewords.specs.Opening.{fault_of, secret_into, wrong_into, lowest_into};
 ghost use Rattle.bundle.specs.Bundle.{params_of};
 ghost use Rattle.archive.specs.Archive.{shares_at};
@@ -30,12 +30,14 @@ fn check_allowance(q: u64) -> Result<(), Refusal>
     words::unless(q <= LARGEST_ALLOWANCE, Refusal::Parameters)
 }
 
-// One step of a desk: a desk that is closed declines, and the count after one opening more is given otherwise.
+// One step of a desk, at the outcome that the opening has so far: that refusal, or that of a desk that is closed, or the count after one opening more.
 #[tactic(auto, using(words::proofs::Refusals::refusals), unfolding(crate::specs::Desk::closed_fault))]
-pub fn step(limit: u64, count: u64) -> Result<u64, Refusal>
-    ensures fault { fault_in result ≡ closed_fault limit count }
-    ensures count { IfOk result (λ n. n ≡ count + 1) }
+pub fn step<T: Copy>(limit: u64, count: u64, ahead: Result<T, Refusal>) -> Result<u64, Refusal>
+    ensures fault { fault_in result ≡ first (fault_in ahead) (closed_fault limit count) }
+    ensures count { MatchResult result (λ n. n ≡ count + 1)
+        (λ _. count ≡ kept (first (fault_in ahead) (closed_fault limit count)) count (count + 1)) }
 {
+    ahead?;
     words::unless(count < limit, Refusal::DeskClosed)?;
     Ok(count + 1)
 }
@@ -53,7 +55,9 @@ pub fn open_by(
 ) -> Result<u64, Refusal>
     ensures fault { fault_in result ≡ fault_of (desk_opening allowance count bytes.now place
         (length out.old) (length wrong.old) (length lowest.old)) }
-    ensures count { IfOk result (λ n. n ≡ count_after count (desk_opening allowance count bytes.now place
+    ensures count { MatchResult result (λ n. n ≡ count_after count (desk_opening allowance count bytes.now place
+        (length out.old) (length wrong.old) (length lowest.old)))
+        (λ _. count ≡ count_after count (desk_opening allowance count bytes.now place
         (length out.old) (length wrong.old) (length lowest.old))) }
     ensures out { out.new ≡ secret_into out.old (desk_opening allowance count bytes.now place
         (length out.old) (length wrong.old) (length lowest.old)) }
@@ -65,9 +69,9 @@ pub fn open_by(
         (length out.old) (length wrong.old) (length lowest.old)) }
 {
     check_allowance(allowance)?;
-    let bundle = archive::accept_place(bytes, place, out.len(), wrong.len(), lowest.len())?;
-    let after = step(allowance, count)?;
-    archive::open_accepted(&bundle, place, out, wrong, lowest)?;
+    let accepted = archive::accept_place(bytes, place, out.len(), wrong.len(), lowest.len());
+    let after = step(allowance, count, accepted)?;
+    archive::open_accepted(&accepted?, place, out, wrong, lowest)?;
     Ok(after)
 }
 
@@ -98,17 +102,18 @@ pub fn open_at(
     Ok(())
 }
 
-// The desk of a month that begins with the allowance q.
+// The desk after a month begins with the allowance q. Where that is declined the desk before stays.
 #[tactic(auto, using(words::proofs::Refusals::refusals))]
-pub fn start_by(q: u64) -> Result<Desk, Refusal>
+pub fn start_by(before: Desk, q: u64) -> Result<Desk, Refusal>
     ensures fault { fault_in result ≡ allowance_fault q }
     ensures desk { IfOk result (λ d. (d.allowance ≡ q) × (d.count ≡ 0)) }
+    ensures after { MatchResult result (λ d. d ≡ start_after before q) (λ _. before ≡ start_after before q) }
 {
     check_allowance(q)?;
-    Ok(Desk {
-        allowance: q,
-        count: 0,
-    })
+    let mut after = before;
+    after.allowance = q;
+    after.count = 0;
+    Ok(after)
 }
 
 // The same at a lent desk, which stays where the allowance is declined.
@@ -116,7 +121,7 @@ pub fn start_by(q: u64) -> Result<Desk, Refusal>
 pub fn start_at(desk: &mut Desk, q: u64) -> Result<(), Refusal>
     ensures { (fault_in result ≡ allowance_fault q) × (desk.new ≡ start_after desk.old q) }
 {
-    *desk = start_by(q)?;
+    *desk = start_by(*desk, q)?;
     Ok(())
 }
 
@@ -155,7 +160,11 @@ pub fn start_lent(desk: &mut [u64], q: u64) -> Result<(), Refusal>
         × (desk.new ≡ kept (lent_start_fault desk.old q) desk.old (q ∷ 0 ∷ [])) }
 {
     words::check_length(2, desk.len())?;
-    let started = start_by(q)?;
+    let before = Desk {
+        allowance: desk[0],
+        count: desk[1],
+    };
+    let started = start_by(before, q)?;
     desk[0] = started.allowance;
     desk[1] = started.count;
     Ok(())
