@@ -1,21 +1,24 @@
 -- What stands on the output before each piece of the job text: the pieces before it; at the end all of them, which are the text. Assumes nothing.
-use Rattle.std.proofs.Common.{◌≡◌, ℕ, ◌+◌, ◌<◌, List, Option, Result, refl, ap, ◌∙◌, subst, le_of_lt}
+use Rattle.std.proofs.Common.{◌≡◌, ℕ, ◌+◌, ◌<◌, List, Option, Result, Err, refl, ap, ◌∙◌, subst, le_of_lt}
 use Rattle.std.specs.Io.KnownBytes.{Appends}
-use Rattle.std.specs.Result.{MatchResult}
+use Rattle.std.specs.Result.{MatchResult, IsOkAnd}
 use Rattle.streams.specs.Moved.{AppendsStart}
 use Rattle.streams.proofs.Pieces.{printed-none, printed-next, printed-start}
 use Rattle.exporting.specs.Export.{export_fault, export_of, export_piece, export_pieces, pieces_from}
 use Rattle.exporting.proofs.Export.{export-whole, export-begin}
 use Rattle.words.specs.declared.Refusal.{Refusal}
+use Rattle.records.specs.declared.Heading.{Heading}
 use Rattle.bundle.specs.declared.Bundle.{Bundle}
 use Rattle.listing.specs.Pieces.{Accepts}
 use Rattle.listing.proofs.Input.{count_by}
 
 -- how many pieces there are, by what accepting the input gave
 module _ (bs : List ℕ) (r : Result Bundle Refusal) (a : Accepts r (export_fault bs) bs) where
-  pub pieces-count : (n : ℕ) → MatchResult r (λ b. n ≡ b.heading.jobs) (λ _. n ≡ 1) → n ≡ export_pieces bs
+  pub pieces-count : (P : Bundle → Heading → Type 0) → ((b : Bundle) (h : Heading) → P b h → h ≡ b.heading) →
+      (q : Result Heading Refusal) → MatchResult r (λ b. IsOkAnd q (P b)) (λ e. q ≡ Err e) →
+      (n : ℕ) → MatchResult q (λ h. n ≡ h.jobs) (λ _. n ≡ 1) → n ≡ export_pieces bs
   unfolding export_pieces
-  pieces-count n m = count_by (export_fault bs) bs r a n m
+  pieces-count P f q t n m = count_by (export_fault bs) bs r a P f q t n m
 
 pub exported-none : (bs : List ℕ) (a : Option (List ℕ)) → Appends a a (pieces_from bs 0 0)
 unfolding pieces_from

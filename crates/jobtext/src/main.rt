@@ -20,7 +20,7 @@ fn print<W: Write>(to: &mut W, bytes: &[u8]) -> io::Result<()>
 {
     let mut text = [0u8; text::REPORT];
     let accepted = exporting::accept(bytes);
-    let pieces = listing::count_pieces(&accepted);
+    let pieces = listing::count_pieces(accepted.map(|bundle| bundle.heading));
     for i in 0..pieces {
         let size = exporting::put_piece(bytes, &accepted, i, &mut text);
         streams::write_text(to, &text[..size])?;

@@ -8,7 +8,7 @@ use borrow.Author.Tests.{le-ltb, lt-ltb}
 use lib.Dec.{leb}
 use lib.ListN.{length}
 use Rattle.std.proofs.Common.{Result, Ok, Err}
-use Rattle.std.specs.Result.{MatchResult}
+use Rattle.std.specs.Result.{MatchResult, IsOkAnd}
 use Rattle.words.specs.declared.Refusal.{Refusal}
 use Rattle.words.specs.Refusal.{unless, kept, number_of, fault_in, LENGTH}
 use Rattle.words.proofs.Refusals.{first-right, kept-none, kept-some, number-some}
@@ -36,13 +36,19 @@ module _ (c : ℕ) (bs : List ℕ) (r : Result Bundle Refusal) (a : Accepts r c 
   pub heading-accepted : (b : Bundle) → r ≡ Ok b → b.heading ≡ bundle_heading bs
   heading-accepted b x = b.headed ∙ ap bundle_heading (a.1 b x)
 
-  -- a text with a piece for each place has as many as there are, or one for the refusal
-  pub count_by : (n : ℕ) → MatchResult r (λ b. n ≡ b.heading.jobs) (λ _. n ≡ 1) → n ≡ kept c 1 (bundle_heading bs).jobs
-  count_by n m = go r refl m
+  -- a text with a piece for each place of the heading of what accepting gave has as many as there are, or one for the refusal
+  pub count_by : (P : Bundle → Heading → Type 0) → ((b : Bundle) (h : Heading) → P b h → h ≡ b.heading) →
+      (q : Result Heading Refusal) → MatchResult r (λ b. IsOkAnd q (P b)) (λ e. q ≡ Err e) →
+      (n : ℕ) → MatchResult q (λ h. n ≡ h.jobs) (λ _. n ≡ 1) → n ≡ kept c 1 (bundle_heading bs).jobs
+  count_by P f q t n m = go r refl q t m
     where
-      go : (q : Result Bundle Refusal) → r ≡ q → MatchResult q (λ b. n ≡ b.heading.jobs) (λ _. n ≡ 1) → n ≡ kept c 1 (bundle_heading bs).jobs
-      go (Ok b) x m = m ∙ ap (λ (h : Heading). h.jobs) (heading-accepted b x) ∙ sym (kept-none c 1 (bundle_heading bs).jobs (fault-accepted b x))
-      go (Err e) x m = m ∙ sym (kept-some c 1 (bundle_heading bs).jobs (λ z. number-some e (sym (fault-refused e x) ∙ z)))
+      go : (o : Result Bundle Refusal) → r ≡ o → (q : Result Heading Refusal) → MatchResult o (λ b. IsOkAnd q (P b)) (λ e. q ≡ Err e) →
+          MatchResult q (λ h. n ≡ h.jobs) (λ _. n ≡ 1) → n ≡ kept c 1 (bundle_heading bs).jobs
+      go (Ok b) x (Ok h) t m =
+          m ∙ ap (λ (h : Heading). h.jobs) (f b h t ∙ heading-accepted b x) ∙ sym (kept-none c 1 (bundle_heading bs).jobs (fault-accepted b x))
+      go (Ok b) x (Err e) t m = absurd t
+      go (Err e) x (Ok h) t m = cc
+      go (Err e) x (Err d) t m = m ∙ sym (kept-some c 1 (bundle_heading bs).jobs (λ z. number-some e (sym (fault-refused e x) ∙ z)))
 
 -- ---- the pieces, by what accepting gave
 

@@ -10,6 +10,7 @@ ghost use Rattle.listing.specs.Pieces.{piece, pieces_in, Accepts};
 
 use bundle::Bundle;
 use decimal::Text;
+use records::Heading;
 use words::Refusal;
 
 // The most bytes of an input: the definition's most_input.
@@ -83,24 +84,23 @@ pub fn accept_input(bytes: &[u8]) -> Result<Bundle, Refusal>
     bundle::accept(bytes)
 }
 
-// How many pieces a text has with one for each place, or one for the refusal.
-pub fn count_pieces(accepted: &Result<Bundle, Refusal>) -> usize
-    ensures { MatchResult accepted.now (λ b. result ≡ b.heading.jobs) (λ _. result ≡ 1) }
+// How many pieces a text has with one for each place of a heading, or one for a refusal.
+pub fn count_pieces(accepted: Result<Heading, Refusal>) -> usize
+    ensures { MatchResult accepted (λ h. result ≡ h.jobs) (λ _. result ≡ 1) }
 {
     match accepted {
-        Ok(bundle) => bundle.heading.jobs,
+        Ok(heading) => heading.jobs,
         Err(_) => 1,
     }
 }
 
-// What printing keeps of an input: its bytes, what accepting them gave, and which piece of its text is next.
+// What printing keeps of an input: its bytes, what accepting them gave, and which piece of its text is next, which may be any.
 #[derive(Clone, Copy)]
 pub struct Printer<'a> {
-    bytes: &'a [u8],
-    accepted: Result<Bundle<'a>, Refusal>,
-    next: usize,
-    ghost own: { Accepts accepted (input_fault bytes.now) bytes.now },
-    ghost within: { next ≤ pieces_in bytes.now },
+    pub bytes: &'a [u8],
+    pub accepted: Result<Bundle<'a>, Refusal>,
+    pub next: usize,
+    pub ghost own: { Accepts accepted (input_fault bytes.now) bytes.now },
 }
 
 impl<'a> Printer<'a> {

@@ -1,22 +1,25 @@
 -- How many pieces the report of an input has, by what accepting it gave. And what stands on the output before each piece of it: the pieces before
 -- that one; at the end all of them, which are the report. Assumes nothing.
 use Rattle.std.proofs.Common.{◌≡◌, ℕ, ◌+◌, ◌<◌, List, Option, Result, Ok, Err, true, refl, sym, ap, ◌∙◌, subst, le_of_lt}
-use Rattle.std.specs.Result.{MatchResult, is_ok}
+use Rattle.std.specs.Result.{MatchResult, IsOkAnd, is_ok}
 use Rattle.std.specs.Io.KnownBytes.{Appends}
 use Rattle.streams.specs.Moved.{AppendsStart}
 use Rattle.streams.proofs.Pieces.{printed-none, printed-next, printed-start}
 use Rattle.mending.specs.Report.{report_of, report_piece, report_pieces, pieces_from}
 use Rattle.mending.proofs.Report.{report-whole, report-begin}
 use Rattle.words.specs.declared.Refusal.{Refusal}
+use Rattle.records.specs.declared.Heading.{Heading}
 use Rattle.bundle.specs.declared.Bundle.{Bundle}
 use Rattle.listing.specs.Listing.{input_fault}
 use Rattle.listing.specs.Pieces.{Accepts}
 use Rattle.listing.proofs.Input.{count_by}
 
 module _ (bs : List ℕ) (r : Result Bundle Refusal) (a : Accepts r (input_fault bs) bs) where
-  pub pieces-count : (n : ℕ) → MatchResult r (λ b. n ≡ b.heading.jobs) (λ _. n ≡ 1) → n ≡ report_pieces bs
+  pub pieces-count : (P : Bundle → Heading → Type 0) → ((b : Bundle) (h : Heading) → P b h → h ≡ b.heading) →
+      (q : Result Heading Refusal) → MatchResult r (λ b. IsOkAnd q (P b)) (λ e. q ≡ Err e) →
+      (n : ℕ) → MatchResult q (λ h. n ≡ h.jobs) (λ _. n ≡ 1) → n ≡ report_pieces bs
   unfolding report_pieces
-  pieces-count n m = count_by (input_fault bs) bs r a n m
+  pieces-count P f q t n m = count_by (input_fault bs) bs r a P f q t n m
 
 -- an input that is accepted has no fault
 pub accepted-clear : (r : Result Bundle Refusal) (bs : List ℕ) → Accepts r (input_fault bs) bs → is_ok r ≡ true → input_fault bs ≡ 0

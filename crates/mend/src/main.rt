@@ -42,7 +42,7 @@ fn print<W: Write>(
     ensures all { OnOk result (Appends (W.contents to.old) (W.contents to.new) (report_of bytes.now)) }
 {
     let mut text = [0u8; text::REPORT];
-    let pieces = listing::count_pieces(accepted);
+    let pieces = listing::count_pieces(accepted.map(|bundle| bundle.heading));
     for i in 0..pieces {
         let size = mending::put_piece(bytes, accepted, i, out, &mut text);
         streams::write_text(to, &text[..size])?;
