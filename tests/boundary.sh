@@ -1,11 +1,16 @@
 #!/usr/bin/env bash
-# The boundary for C and Rust: builds the static library, runs tests/boundary/main.c against include/yikescanvas.h, plain and under valgrind, then
+# The boundary for C and Rust: builds the static library, looks at what it needs from outside, runs tests/boundary/main.c against
+# include/yikescanvas.h, plain and under valgrind, then
 # the tests of the Rust wrapper and its example against the stored output.
 set -u
 cd "$(dirname "$0")/.." || exit 2
 name=boundary
 . tools/library.sh
 library=$YIKES_LIB_DIR/libboundary.a
+
+# What README.md says that the library needs from outside, and no more.
+needs=$(nm -u "$library" 2>/dev/null | awk '$1 == "U" { print $2 }' | sort -u | tr '\n' ' ')
+[ "$needs" = "memcpy memset " ] || fail "the library needs from outside: $needs"
 
 warnings="-Wall -Wextra -Wpedantic -Werror"
 # shellcheck disable=SC2086

@@ -117,7 +117,7 @@ pub fn mend(bytes: &[u8], out: &mut [u8]) -> Result<(), Refusal>
 {
     let bundle = bundle::accept(bytes)?;
     words::check_length(bytes.len(), out.len())?;
-    out.copy_from_slice(bytes);
+    writer::put_bytes(out, 0, bytes);
     mend_jobs(&bundle, out);
     Ok(())
 }

@@ -15,7 +15,7 @@ use Rattle.words.specs.Refusal.{first, unless}
 use Rattle.words.specs.Faults.{width_fault}
 use Rattle.words.specs.Word.{all_in_width}
 use Rattle.words.proofs.Tests.{and_left, and_right, and_both, and_yes, not-held, true-false}
-use Rattle.words.proofs.Refusals.{pass, first-left, first-right, unless-held, unless-yes}
+use Rattle.words.proofs.Refusals.{pass, stop, first-left, first-right, unless-held, unless-yes}
 use Rattle.records.specs.Num.{le_bytes}
 use Rattle.records.specs.Layout.{head_kind, head_len, word_size, job_kind, job_len, job_size, file_size, order_kind, order_len}
 use Rattle.bundle.specs.Bundle.{ranges_ok, holder_ok}
@@ -24,8 +24,6 @@ use Rattle.records.specs.declared.Heading.{Heading}
 use Rattle.writer.specs.Bytes.{record_bytes, heading_body, heading_bytes, words_bytes, job_body, job_bytes, jobs_bytes, order_bytes}
 use Rattle.writer.specs.Write.{rising, job_of, jobs_of, sizes_ok, write_fault}
 use Rattle.writer.proofs.Fits.{heading-body-length, job-body-length, job-length}
-
--- ---- numbers that rise
 
 -- ---- numbers that rise
 
@@ -122,6 +120,10 @@ job-words d ws from h = length-take-le d (drop from ws) (rw length-drop (omega a
 -- ---- the fault of a call of the file writer, case by case
 
 module _ (h : Heading) (ns ws : List ℕ) (size : ℕ) where
+  pub write-1 : ranges_ok h ≡ false → write_fault h ns ws size ≡ 1
+  unfolding write_fault
+  write-1 e = stop (ranges_ok h) 1 _ (lit< tt) e
+
   pub write-rest : ranges_ok h ≡ true → write_fault h ns ws size ≡
       first (unless (sizes_ok h (length ws) size) 2) (first (unless (holder_ok 0 h) 4) (first (unless (rising ns) 7) (width_fault h.params.k ws)))
   unfolding write_fault

@@ -175,13 +175,15 @@ pub fn write_file(
     Ok(())
 }
 
-// Writes bytes from a position on.
+// Writes bytes from a position on. A loop and no `copy_from_slice`, which would have the library for C need `memmove` beside what it needs.
 pub fn put_bytes(out: &mut [u8], at: usize, bytes: &[u8])
     requires { at + length bytes.now ≤ length out.old }
     ensures { out.new ≡ take at out.old ++
         (bytes.now ++ drop (at + length bytes.now) out.old) }
 {
-    out[at..at + bytes.len()].copy_from_slice(bytes);
+    for i in 0..bytes.len() {
+        out[at + i] = bytes[i];
+    }
 }
 
 // Writes a bundle: an order, and after it files as they stand in one lent slice. Files come from their holders already written, so nothing
