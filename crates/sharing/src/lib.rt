@@ -64,15 +64,16 @@ fn share_at(d: usize, secret: &[u64], coefficients: &[u64], t: usize, x: u64) ->
     words::specialized!(d, share_by(d, secret, coefficients, t, x))
 }
 
-// The shares of holders 1 to n: words of 64 bits, reduced once at the end.
+// The shares of holders 1 to n: words of 64 bits, reduced once at the end. The loop counts holders: of a count from 0 the
+// compiler would make a holder's number anew for each of its bits that is tested.
 fn write_shares(p: words::Params, secret: &[u64], coefficients: &[u64], out: &mut [u64])
     requires { ((1 ≤ p.k) × (p.k ≤ 64)) × ((2 ≤ p.d) × (p.d ≤ 6)) × ((p.n ≤ 63) × (p.t ≤ 63)) × (length secret.now ≡ p.d)
         × (length coefficients.now ≡ p.t * p.d) × (length out.old ≡ p.n * p.d) }
     ensures { out.new ≡ dealt p secret.now coefficients.now }
 {
-    for i in 0..p.n {
-        let e = share_at(p.d, secret, coefficients, p.t, i as u64 + 1);
-        ring::store(p.d, out, i * p.d, ring::reduce(p.k, e));
+    for x in 1..p.n + 1 {
+        let e = share_at(p.d, secret, coefficients, p.t, x as u64);
+        ring::store(p.d, out, (x - 1) * p.d, ring::reduce(p.k, e));
     }
 }
 
