@@ -9,6 +9,16 @@ use lib.ListN.{length, take, drop, set, length-append, length-drop, take-append-
 use lib.Seq.{length-take-le, take_at, drop-append-add, drop-drop, set_split, append_snoc}
 use Rattle.decimal.specs.Decimal.{written}
 
+-- what a call gives that writes a text at a position: the new buffer and the position after it
+abbrev pub Wrote : List ℕ → ℕ → List ℕ → List ℕ → ℕ → Type 0
+Wrote old at text new end = (new ≡ written at text old) × (end ≡ at + length text)
+
+-- a call that wrote a text from the start, where the text is a line, or lines, that have room
+pub wrote-line : {room : ℕ} (old new line text : List ℕ) (r : ℕ) → line ≡ text → Wrote old 0 text new r → length text ≤ room
+    → (new ≡ written 0 line old) × (r ≡ length line) × (r ≤ room)
+wrote-line old new line text r e w l =
+    (w.0 ∙ ap (λ (t : List ℕ). written 0 t old) (sym e), omega (arith, w.1, ap length e), omega (arith, w.1))
+
 front_length : (old text : List ℕ) (at : ℕ) → at + length text ≤ length old → length (take at old ++ text) ≡ at + length text
 front_length old text at h =
     let t : length (take at old) ≡ at = length-take-le at old (omega arith) in
@@ -49,3 +59,9 @@ written-more old a b at h =
     ∙ drop-drop (length b) (at + length a) old
     ∙ ap (λ (k : ℕ). drop k old) n in
     rw (t, d, append_assoc (take at old) a b)
+
+-- two texts written one after another
+pub wrote-more : {mid new : List ℕ} {m r : ℕ} (old a b : List ℕ) (at : ℕ) → at + length a ≤ length old → Wrote old at a mid m → Wrote mid m b new r
+    → Wrote old at (a ++ b) new r
+wrote-more old a b at h p q =
+    (q.0 ∙ rw (p.1, p.0) (written-more old a b at h), omega (arith, p.1, q.1, length-append a b))

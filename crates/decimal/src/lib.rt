@@ -1,9 +1,31 @@
 // Numbers as text, written one after another at the front of a lent buffer.
 #![tactic(auto)]
 
-ghost use Rattle.std.specs.Prelude.{◌≡◌, ◌≤◌, length};
+ghost use Rattle.std.specs.Prelude.{◌≡◌, [], ◌∷◌, ◌+◌, ◌≤◌, length};
+ghost use Rattle.decimal.specs.Decimal.{written, decimal};
 
 use words::Signed;
+
+fn put_byte(out: &mut [u8], at: usize, b: u8) -> usize
+    requires { at + 1 ≤ length out.old }
+    ensures { (out.new ≡ written at (b ∷ []) out.old) × (result ≡ at + 1) }
+{
+    out[at] = b;
+    at + 1
+}
+
+// A number's digits from a position on, and the position after them: those before the last one are those of a tenth of the number. It hands on
+// positions, and no text, whose length would be loaded and stored for each digit: the text of a job took a third more instructions so.
+fn put_decimal(out: &mut [u8], at: usize, x: u64) -> usize
+    requires { at + length (decimal x) ≤ length out.old }
+    ensures { (out.new ≡ written at (decimal x) out.old) × (result ≡ at + length (decimal x)) }
+{
+    if x < 10 {
+        return put_byte(out, at, 48 + x as u8);
+    }
+    let p = put_decimal(out, at, x / 10);
+    put_byte(out, p, 48 + (x % 10) as u8)
+}
 
 // A text so far, at the front of a lent buffer.
 #[derive(Drop)]
@@ -14,8 +36,7 @@ pub struct Text<'a> {
 }
 
 impl<'a> Text<'a> {
-    ghost use Rattle.std.specs.Prelude.{[], ◌∷◌};
-    ghost use Rattle.decimal.specs.Decimal.{decimal, sign, signed_text, hundredths_text};
+    ghost use Rattle.decimal.specs.Decimal.{sign, signed_text, hundredths_text};
     ghost use Rattle.decimal.specs.Puts.{HasRoom, Puts};
 
     pub fn new(buffer: &'a mut [u8]) -> Text<'a>
@@ -49,15 +70,11 @@ impl<'a> Text<'a> {
         self.len = end;
     }
 
-    // The digits before the last one are those of a tenth of the number.
     pub fn decimal(&mut self, x: u64)
         requires { HasRoom self.old (decimal x) }
         ensures { Puts self.old self.new (decimal x) }
     {
-        if x >= 10 {
-            self.decimal(x / 10);
-        }
-        self.byte(48 + (x % 10) as u8);
+        self.len = put_decimal(self.buffer, self.len, x);
     }
 
     #[tactic(auto, using(crate::proofs::Puts::texts), unfolding(crate::specs::Decimal::sign))]
