@@ -1,15 +1,38 @@
--- What the calls on lent elements have in common: one operand is a pair of the same, and what the output holds. Assumes nothing.
+-- What the calls on lent elements have in common: what no fault tells, one operand is a pair of the same, and what the output holds. Assumes
+-- nothing.
 use mathlib.Core.Path.{◌≡◌, sym, ap, ◌∙◌}
 use mathlib.Core.List.{List, ◌++◌}
 use Prim.Native.Nat.{ℕ, ◌+◌}
 use lib.ListN.{length, take, drop}
 use Rattle.words.specs.declared.Params.{Params}
 use Rattle.words.specs.Refusal.{first, kept}
-use Rattle.words.proofs.Refusals.{first-twice, first-same, kept-none}
+use Rattle.words.proofs.Refusals.{first-left, first-right, first-twice, first-same, kept-none}
+use Rattle.words.proofs.Faults.{params-clear, length-clear}
+use Rattle.words.proofs.InRange.{InRange}
 use Rattle.words.specs.Faults.{params_fault, length_fault, width_fault}
 use Rattle.galois.specs.Element.{held}
 use Rattle.ring.proofs.Stored.{stored}
 use Rattle.arithmetic.specs.Calls.{operand_fault, operands_fault}
+
+-- a call with no fault
+pub record Clear (p : Params) (a b : List ℕ) (n : ℕ) : Type 0 where
+  pub range : InRange p
+  pub a-length : length a ≡ p.d
+  pub b-length : length b ≡ p.d
+  pub out-length : n ≡ p.d
+
+pub clear : (p : Params) (a b : List ℕ) (n : ℕ) → operands_fault p a b n ≡ 0 → Clear p a b n
+unfolding operands_fault
+clear p a b n e =
+    let e₂ = first-right (params_fault p) _ e in
+    let e₃ = first-right (length_fault p.d (length a)) _ e₂ in
+    let e₄ = first-right (length_fault p.d (length b)) _ e₃ in
+    record {
+      range = params-clear p (first-left (params_fault p) _ e);
+      a-length = length-clear p.d (length a) (first-left (length_fault p.d (length a)) _ e₂);
+      b-length = length-clear p.d (length b) (first-left (length_fault p.d (length b)) _ e₃);
+      out-length = length-clear p.d n (first-left (length_fault p.d n) _ e₄);
+    }
 
 -- one operand is a pair of the same
 pub one-operand : (p : Params) (a : List ℕ) (n : ℕ) → operands_fault p a a n ≡ operand_fault p a n

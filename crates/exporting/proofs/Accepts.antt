@@ -5,7 +5,7 @@ use Prim.Native.Nat.{ℕ}
 use borrow.Author.Tests.{eqb-true}
 use lib.Dec.{eqb, lit<}
 use Rattle.std.proofs.Common.{Result, Ok}
-use Rattle.words.proofs.Refusals.{first-right, unless-held}
+use Rattle.words.proofs.Refusals.{first-left, first-right, unless-held}
 use Rattle.words.specs.declared.Refusal.{Refusal}
 use Rattle.records.specs.declared.Heading.{Heading}
 use Rattle.bundle.specs.Bundle.{params_of}
@@ -15,7 +15,11 @@ use Rattle.listing.specs.Pieces.{Accepts}
 use Rattle.listing.proofs.Input.{fault-accepted, heading-accepted}
 use Rattle.exporting.specs.Export.{export_fault}
 
-lens-book : (bs : List ℕ) → export_fault bs ≡ 0 → (params_of bs).d ≡ 4
+pub input-clear : (bs : List ℕ) → export_fault bs ≡ 0 → input_fault bs ≡ 0
+unfolding export_fault
+input-clear bs z = first-left (input_fault bs) _ z
+
+pub lens-book : (bs : List ℕ) → export_fault bs ≡ 0 → (params_of bs).d ≡ 4
 unfolding export_fault
 lens-book bs z = eqb-true (params_of bs).d 4 (unless-held (eqb (params_of bs).d 4) 1 (lit< tt) (first-right (input_fault bs) _ z))
 

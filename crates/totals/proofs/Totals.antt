@@ -16,8 +16,8 @@ use Rattle.words.specs.Refusal.{first, unless}
 use Rattle.words.specs.Faults.{length_fault}
 use Rattle.words.specs.Signed.{meaning, sum_of_meanings}
 use Rattle.words.specs.Word.{in_width, all_in_width}
-use Rattle.words.proofs.Refusals.{first-left, first-right, first-none, first-assoc, first_three}
-use Rattle.words.proofs.Refusals.{pass, unless-held, unless-yes, kept-none}
+use Rattle.words.proofs.Refusals.{first-left, first-right, first-none, first_some, first-assoc, first_three}
+use Rattle.words.proofs.Refusals.{pass, unless-held, unless-yes, kept-none, kept-some}
 use Rattle.galois.specs.Element.{sum, zero_e}
 use Rattle.records.specs.declared.Heading.{Heading}
 use Rattle.bundle.specs.Bundle.{bundle_fault, bundle_heading, params_of, files_of}
@@ -85,6 +85,10 @@ module _ (bs : List ℕ) (holder a b out : ℕ) where
   abbrev width : ℕ
   width = unless (run_in_width bs (file_of bs holder) a (b - a)) 3
 
+  pub total-asked : (v : ℕ) → v ≡ asked_fault bs holder a b out → (v ≡ 0 → ⊥) → v ≡ total_fault bs holder a b out
+  unfolding total_fault
+  total-asked v e n = e ∙ sym (first_some (asked_fault bs holder a b out) width (λ z. n (e ∙ z)))
+
   pub total-width : asked_fault bs holder a b out ≡ 0 → total_fault bs holder a b out ≡ unless (run_in_width bs (file_of bs holder) a (b - a)) 3
   unfolding total_fault
   total-width z = first-none (asked_fault bs holder a b out) width z
@@ -112,6 +116,11 @@ module _ (bs : List ℕ) (holder a b : ℕ) (old : List ℕ) where
   pub total-words : total_fault bs holder a b (length old) ≡ 0 → total_words bs holder a b old ≡ run_total bs (file_of bs holder) a (b - a)
   unfolding total_words
   total-words e = kept-none (total_fault bs holder a b (length old)) old (run_total bs (file_of bs holder) a (b - a)) e
+
+  pub total-refused : (v : ℕ) → v ≡ total_fault bs holder a b (length old) → (v ≡ 0 → ⊥) →
+      (v ≡ total_fault bs holder a b (length old)) × (old ≡ total_words bs holder a b old)
+  unfolding total_words
+  total-refused v e n = (e, sym (kept-some (total_fault bs holder a b (length old)) old _ (λ z. n (e ∙ z))))
 
   pub total-done : {h : Heading} {f : ℕ} → Found bs holder a b (length old) h f → total_fault bs holder a b (length old) ≡ 0 → (new : List ℕ) →
       new ≡ run_total bs f a (b - a) → (0 ≡ total_fault bs holder a b (length old)) × (new ≡ total_words bs holder a b old)

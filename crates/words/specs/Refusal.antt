@@ -4,7 +4,7 @@ use Rattle.std.specs.declared.result.Result.TheVariants.{Ok, Err}
 use Rattle.words.specs.declared.Refusal.{Refusal}
 use Rattle.words.specs.declared.Refusal.TheVariants.{Parameters, Length, WideWord, Holder, TooFewShares, NoCodeword, Malformed, Mismatched, OutOfRange, DeskClosed, Text}
 
--- the paper's table, by the names that the code's constants have: book, length, wide word, holder, too few, no curve, frame, strangers, place
+-- the paper's table, by the names of the variants in code, in capitals: book, length, wide word, holder, too few, no curve, frame, strangers, place
 abbrev pub PARAMETERS : ℕ
 PARAMETERS = 1
 
