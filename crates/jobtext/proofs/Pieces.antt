@@ -10,15 +10,20 @@ use Rattle.words.specs.declared.Refusal.{Refusal}
 use Rattle.records.specs.declared.Heading.{Heading}
 use Rattle.bundle.specs.declared.Bundle.{Bundle}
 use Rattle.listing.specs.Pieces.{Accepts}
-use Rattle.listing.proofs.Input.{count_by}
+use Rattle.listing.proofs.Input.{count_by, count_mapped}
 
 -- how many pieces there are, by what accepting the input gave
 module _ (bs : List ℕ) (r : Result Bundle Refusal) (a : Accepts r (export_fault bs) bs) where
-  pub pieces-count : (P : Bundle → Heading → Type 0) → ((b : Bundle) (h : Heading) → P b h → h ≡ b.heading) →
+  pub pieces-count : (n : ℕ) → MatchResult r (λ b. n ≡ b.heading.jobs) (λ _. n ≡ 1) → n ≡ export_pieces bs
+  unfolding export_pieces
+  pieces-count n m = count_by (export_fault bs) bs r a n m
+
+  -- the same by the heading that is handed on
+  pub pieces-mapped : (P : Bundle → Heading → Type 0) → ((b : Bundle) (h : Heading) → P b h → h ≡ b.heading) →
       (q : Result Heading Refusal) → MatchResult r (λ b. IsOkAnd q (P b)) (λ e. q ≡ Err e) →
       (n : ℕ) → MatchResult q (λ h. n ≡ h.jobs) (λ _. n ≡ 1) → n ≡ export_pieces bs
   unfolding export_pieces
-  pieces-count P f q t n m = count_by (export_fault bs) bs r a P f q t n m
+  pieces-mapped P f q t n m = count_mapped (export_fault bs) bs r a P f q t n m
 
 pub exported-none : (bs : List ℕ) (a : Option (List ℕ)) → Appends a a (pieces_from bs 0 0)
 unfolding pieces_from

@@ -36,19 +36,26 @@ module _ (c : ℕ) (bs : List ℕ) (r : Result Bundle Refusal) (a : Accepts r c 
   pub heading-accepted : (b : Bundle) → r ≡ Ok b → b.heading ≡ bundle_heading bs
   heading-accepted b x = b.headed ∙ ap bundle_heading (a.1 b x)
 
-  -- a text with a piece for each place of the heading of what accepting gave has as many as there are, or one for the refusal
-  pub count_by : (P : Bundle → Heading → Type 0) → ((b : Bundle) (h : Heading) → P b h → h ≡ b.heading) →
+  -- a text with a piece for each place has as many as there are, or one for the refusal
+  pub count_by : (n : ℕ) → MatchResult r (λ b. n ≡ b.heading.jobs) (λ _. n ≡ 1) → n ≡ kept c 1 (bundle_heading bs).jobs
+  count_by n m = go r refl m
+    where
+      go : (q : Result Bundle Refusal) → r ≡ q → MatchResult q (λ b. n ≡ b.heading.jobs) (λ _. n ≡ 1) → n ≡ kept c 1 (bundle_heading bs).jobs
+      go (Ok b) x m = m ∙ ap (λ (h : Heading). h.jobs) (heading-accepted b x) ∙ sym (kept-none c 1 (bundle_heading bs).jobs (fault-accepted b x))
+      go (Err e) x m = m ∙ sym (kept-some c 1 (bundle_heading bs).jobs (λ z. number-some e (sym (fault-refused e x) ∙ z)))
+
+  -- the same where the heading of what accepting gave is counted by
+  pub count_mapped : (P : Bundle → Heading → Type 0) → ((b : Bundle) (h : Heading) → P b h → h ≡ b.heading) →
       (q : Result Heading Refusal) → MatchResult r (λ b. IsOkAnd q (P b)) (λ e. q ≡ Err e) →
       (n : ℕ) → MatchResult q (λ h. n ≡ h.jobs) (λ _. n ≡ 1) → n ≡ kept c 1 (bundle_heading bs).jobs
-  count_by P f q t n m = go r refl q t m
+  count_mapped P f q t n m = count_by n (go r q t m)
     where
-      go : (o : Result Bundle Refusal) → r ≡ o → (q : Result Heading Refusal) → MatchResult o (λ b. IsOkAnd q (P b)) (λ e. q ≡ Err e) →
-          MatchResult q (λ h. n ≡ h.jobs) (λ _. n ≡ 1) → n ≡ kept c 1 (bundle_heading bs).jobs
-      go (Ok b) x (Ok h) t m =
-          m ∙ ap (λ (h : Heading). h.jobs) (f b h t ∙ heading-accepted b x) ∙ sym (kept-none c 1 (bundle_heading bs).jobs (fault-accepted b x))
-      go (Ok b) x (Err e) t m = absurd t
-      go (Err e) x (Ok h) t m = cc
-      go (Err e) x (Err d) t m = m ∙ sym (kept-some c 1 (bundle_heading bs).jobs (λ z. number-some e (sym (fault-refused e x) ∙ z)))
+      go : (o : Result Bundle Refusal) (q : Result Heading Refusal) → MatchResult o (λ b. IsOkAnd q (P b)) (λ e. q ≡ Err e) →
+          MatchResult q (λ h. n ≡ h.jobs) (λ _. n ≡ 1) → MatchResult o (λ b. n ≡ b.heading.jobs) (λ _. n ≡ 1)
+      go (Ok b) (Ok h) t m = m ∙ ap (λ (h : Heading). h.jobs) (f b h t)
+      go (Ok b) (Err e) t m = absurd t
+      go (Err e) (Ok h) t m = cc
+      go (Err e) (Err d) t m = m
 
 -- ---- the pieces, by what accepting gave
 

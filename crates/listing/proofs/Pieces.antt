@@ -1,5 +1,5 @@
 -- The pieces of a text: each but those past the last has a byte, so they end; joined they are the text of the listing; and what is written after
--- any number of them is a beginning of it. Assumes nothing.
+-- any number of them is a beginning of it. And the printers of an input. Assumes nothing.
 use mathlib.Core.Path.{◌≡◌, refl, sym, ap, ap₂, ◌∙◌}
 use mathlib.Core.List.{List, [], ◌++◌, map, append-nil}
 use Prim.Native.Nat.{ℕ, zero, suc, ◌+◌, ◌-◌, ◌≤◌, ◌<◌}
@@ -7,6 +7,8 @@ use native.Mathlib.Decide.{dec_le}
 use native.Mathlib.Omega.{arith}
 use borrow.Author.Tests.{le-ltb, lt-ltb}
 use lib.ListN.{length, get_or, length-append}
+use Rattle.std.proofs.Common.{Option, Some, None}
+use Rattle.std.specs.Prelude.{MatchOption}
 use Rattle.words.specs.Refusal.{kept}
 use Rattle.words.specs.Signed.{signed_of}
 use Rattle.words.specs.declared.Params.{Params}
@@ -16,10 +18,11 @@ use Rattle.bundle.specs.Bundle.{bundle_heading, params_of, num_of, job_at, most_
 use Rattle.bundle.proofs.Bundles.{bundle-ok, bundle-ranges}
 use Rattle.archive.specs.Archive.{shares_at, place_opening}
 use Rattle.decimal.specs.Decimal.{ascii, decimal}
-use Rattle.text.specs.Text.{joined, holders_text, words_text, head_line, refused_line, job_line, open_line, declined_line}
+use Rattle.text.specs.Text.{line_room, joined, holders_text, words_text, head_line, refused_line, job_line, open_line, declined_line}
 use Rattle.text.proofs.Runs.{run-add, run-empty}
 use Rattle.listing.specs.Listing.{line_by, line_of, lines_from, input_fault, unless_refused, listing_of}
 use Rattle.listing.specs.Pieces.{piece_by, piece, pieces_in, pieces_from}
+use Rattle.listing.specs.declared.Printer.{Printer}
 use Rattle.listing.proofs.Input.{fault-none}
 
 -- ---- which pieces have a byte
@@ -136,3 +139,16 @@ pieces-few bs = go (input_fault bs) refl
     go : (c : ℕ) → input_fault bs ≡ c → kept c 1 (suc (bundle_heading bs).jobs) ≤ suc most_jobs
     go zero e = let r = bundle-ranges bs (bundle-ok bs (fault-none bs e)) in omega (arith, r.jobs_high)
     go (suc c) e = omega arith
+
+-- ---- the printers of an input: one that `start` gave, and that `next` alone moves, never stands past the pieces
+
+pub printer-begins : (p : Printer) → p.next ≡ 0 → p.next ≤ pieces_in p.bytes.now
+printer-begins p z = omega (arith, z)
+
+-- r is what `next` gave, p the printer before it and q the one after, by its clauses `bytes` and `size`
+pub printer-within : (p q : Printer) (r : Option ℕ) → p.next ≤ pieces_in p.bytes.now → q.bytes.now ≡ p.bytes.now →
+    MatchOption r ((pieces_in p.bytes.now ≤ p.next) × (q.next ≡ p.next))
+    (λ n. (n ≡ length (piece p.bytes.now p.next)) × (n ≤ line_room) × (p.next < pieces_in p.bytes.now) × (q.next ≡ p.next + 1)) →
+    q.next ≤ pieces_in q.bytes.now
+printer-within p q (Some n) h e m = rw e (omega (arith, m.2, m.3))
+printer-within p q None h e m = rw e (omega (arith, h, m.1))

@@ -12,14 +12,19 @@ use Rattle.records.specs.declared.Heading.{Heading}
 use Rattle.bundle.specs.declared.Bundle.{Bundle}
 use Rattle.listing.specs.Listing.{input_fault}
 use Rattle.listing.specs.Pieces.{Accepts}
-use Rattle.listing.proofs.Input.{count_by}
+use Rattle.listing.proofs.Input.{count_by, count_mapped}
 
 module _ (bs : List ℕ) (r : Result Bundle Refusal) (a : Accepts r (input_fault bs) bs) where
-  pub pieces-count : (P : Bundle → Heading → Type 0) → ((b : Bundle) (h : Heading) → P b h → h ≡ b.heading) →
+  pub pieces-count : (n : ℕ) → MatchResult r (λ b. n ≡ b.heading.jobs) (λ _. n ≡ 1) → n ≡ report_pieces bs
+  unfolding report_pieces
+  pieces-count n m = count_by (input_fault bs) bs r a n m
+
+  -- the same by the heading that is handed on
+  pub pieces-mapped : (P : Bundle → Heading → Type 0) → ((b : Bundle) (h : Heading) → P b h → h ≡ b.heading) →
       (q : Result Heading Refusal) → MatchResult r (λ b. IsOkAnd q (P b)) (λ e. q ≡ Err e) →
       (n : ℕ) → MatchResult q (λ h. n ≡ h.jobs) (λ _. n ≡ 1) → n ≡ report_pieces bs
   unfolding report_pieces
-  pieces-count P f q t n m = count_by (input_fault bs) bs r a P f q t n m
+  pieces-mapped P f q t n m = count_mapped (input_fault bs) bs r a P f q t n m
 
 -- an input that is accepted has no fault
 pub accepted-clear : (r : Result Bundle Refusal) (bs : List ℕ) → Accepts r (input_fault bs) bs → is_ok r ≡ true → input_fault bs ≡ 0

@@ -4,7 +4,7 @@ use Rattle.decimal.proofs.Written.{take-written}
 use Rattle.streams.specs.Moved.{AppendsStart}
 use Rattle.streams.proofs.Moved.{start-whole}
 use Rattle.exporting.specs.Export.{export_of, export_piece, export_pieces}
-use Rattle.jobtext.proofs.Pieces.{pieces-count, exported-none, exported-next, exported-start, exported-all}
+use Rattle.jobtext.proofs.Pieces.{pieces-mapped, exported-none, exported-next, exported-start, exported-all}
 use Rattle.jobtext.proofs.print.Given.{Over}
 use Rattle.jobtext.proofs.print.Goals as goal
 use Rattle.jobtext.proofs.print.Goals.{After-count_pieces-pieces}
@@ -12,7 +12,7 @@ use Rattle.jobtext.proofs.print.Goals.{After-count_pieces-pieces}
 -- as many pieces are written as there are
 counted : (g : Over) (c : After-count_pieces-pieces g) → c.count_pieces-pieces.result ≡ export_pieces c.args.bytes.now
 counted g c =
-    pieces-count c.args.bytes.now c.accept-accepted.result c.accept-accepted.ensures _ (λ b h p. search rules) c.map.result c.map.ensures.cases c.count_pieces-pieces.result
+    pieces-mapped c.args.bytes.now c.accept-accepted.result c.accept-accepted.ensures _ (λ b h p. search rules) c.map.result c.map.ensures.cases c.count_pieces-pieces.result
     c.count_pieces-pieces.ensures
 
 pub loop-i-init : goal.loop-i-init

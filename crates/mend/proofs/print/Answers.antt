@@ -5,7 +5,7 @@ use Rattle.streams.specs.Moved.{AppendsStart}
 use Rattle.streams.proofs.Moved.{start-whole}
 use Rattle.mending.specs.Progress.{output_at}
 use Rattle.mending.specs.Report.{report_of, report_piece, report_pieces}
-use Rattle.mend.proofs.Pieces.{pieces-count, reported-none, reported-next, reported-start, reported-all}
+use Rattle.mend.proofs.Pieces.{pieces-mapped, reported-none, reported-next, reported-start, reported-all}
 use Rattle.mend.proofs.print.Given.{Over}
 use Rattle.mend.proofs.print.Goals as goal
 use Rattle.mend.proofs.print.Goals.{After-count_pieces-pieces}
@@ -13,7 +13,7 @@ use Rattle.mend.proofs.print.Goals.{After-count_pieces-pieces}
 -- as many pieces are written as there are
 counted : (g : Over) (c : After-count_pieces-pieces g) → c.count_pieces-pieces.result ≡ report_pieces c.args.bytes.now
 counted g c =
-    pieces-count c.args.bytes.now c.args.accepted.now c.requires.0 _ (λ b h p. search rules) c.map.result c.map.ensures.cases c.count_pieces-pieces.result
+    pieces-mapped c.args.bytes.now c.args.accepted.now c.requires.0 _ (λ b h p. search rules) c.map.result c.map.ensures.cases c.count_pieces-pieces.result
     c.count_pieces-pieces.ensures
 
 pub loop-i-init : goal.loop-i-init
